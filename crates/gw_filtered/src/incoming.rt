@@ -50,15 +50,7 @@ impl<I: TrunkInput, F: BufferFilter> TrunkInput for FilteredInput<I, F> {
 
     ghost has_ended = { λ d. I.has_ended d.incoming };
 
-    ghost has_none = { λ d. I.has_none d.incoming };
-
     ghost has_failed = { λ d. I.has_failed d.incoming };
-
-    ghost reads = { λ d d' room told. I.reads d.incoming d'.incoming room told };
-
-    ghost commands = { λ d d' told. I.commands d.incoming d'.incoming told };
-
-    ghost sleeps = { λ d d'. I.sleeps d.incoming d'.incoming };
 
     ghost waits = { λ d. I.waits d.incoming };
 

@@ -143,17 +143,7 @@ impl<O: TrunkOutput, F: PieceFilter> TrunkOutput for FilteredOutput<O, F> {
 
     ghost waits = { λ d. O.waits d.outgoing };
 
-    ghost sleeps = { λ d d'. O.sleeps d.outgoing d'.outgoing };
-
     ghost slow_waits = { λ d. O.slow_waits d.outgoing };
-
-    ghost is_slow = { λ d. O.is_slow d.outgoing };
-
-    ghost has_waited = { λ d d'. O.has_waited d.outgoing d'.outgoing };
-
-    ghost has_looked = { λ d d'. O.has_looked d.outgoing d'.outgoing };
-
-    ghost may_have_room = { λ d d'. O.may_have_room d.outgoing d'.outgoing };
 
     fn write(&mut self, octets: &[u8]) -> Result<Option<usize>, DeviceFault>
         ensures bound { IfOk result (λ n. IfSome n (λ m. m ≤ length octets.now)) }

@@ -9,10 +9,7 @@ use gw_repeat::{Repeating, packet_words};
 use gw_session::{RunFault, Totals};
 use gw_switch::Gateway;
 use gw_tell::Teller;
-use gw_trunk::LocalDoors;
-use gw_udp::{
-    Descriptors, LocalSockets, OpenFault, Resting, Sockets, SourceFilter, SystemSocket, UdpPorts,
-};
+use gw_udp::{Descriptors, OpenFault, Resting, SourceFilter, SystemSocket, UdpPorts};
 use log_files::FileStore;
 use std::net::Net;
 
@@ -99,7 +96,15 @@ fn open_sockets(
     among: Descriptors,
     config: &Config,
 ) -> Result<Ports, ProgramFault> {
-    match LocalSockets::new(rt).open(rt.alloc(), config, filter_of(senders), among) {
+    let host = config.host.as_str();
+    match UdpPorts::open(
+        rt,
+        rt.alloc(),
+        host,
+        &config.ports,
+        filter_of(senders),
+        among,
+    ) {
         Ok(ports) => Ok(ports),
         Err(OpenFault::Socket(circuit)) => Err(ProgramFault::Socket(circuit)),
         Err(OpenFault::OutOfMemory) => Err(ProgramFault::OutOfMemory),
@@ -158,7 +163,7 @@ pub fn open_teller(
         return Ok(None);
     };
     let law = config.gateway.law;
-    match Teller::open(rt.alloc(), &mut LocalDoors::new(rt), path, law, gateway) {
+    match Teller::open(rt, path, law, gateway) {
         Ok(teller) => Ok(Some(teller)),
         Err(error) => Err(ProgramFault::of(&error, ProgramFault::Tell)),
     }

@@ -4,7 +4,7 @@ use Rattle.std.proofs.Common.{refl, sym, ap, ◌∙◌, append-nil}
 use Rattle.std.proofs.lemmas.Grind.{flat_map-append}
 use Rattle.std.specs.declared.net.socket_addr.SocketAddr.{SocketAddr}
 use Rattle.gw_records.specs.declared.ports.PortFault.{PortFault}
-use Rattle.gw_udp.specs.Socket.{KeepsBound, ReceivesAny}
+use Rattle.gw_udp.specs.Socket.{ReceivesAny}
 use Rattle.gw_satop.specs.declared.log.History.{History}
 use Rattle.gw_satop.specs.FarEnd.{SocketCall, Relations, received_by, given_to, taken_of, IsCalled, AreCalled}
 use Rattle.gw_satop.specs.FarEnd.{IsBySocket}
@@ -83,14 +83,6 @@ pub by_failed : {S : Type 0} (how : Relations S) (there : SocketAddr)
 by_failed how there opened between socket received sent fault room by got =
     by_nothing how there SocketCall.Failed opened between socket received sent refl refl refl by
     (fault, room, got)
-
--- the socket is watched
-pub by_watched : {S : Type 0} (how : Relations S) (there : SocketAddr)
-    (opened between socket : S) (received : List (List ℕ)) (sent : History)
-    → IsBySocket how there opened between received sent → KeepsBound how.is_bound between socket
-    → IsBySocket how there opened socket received sent
-by_watched how there opened between socket received sent by kept =
-    by_nothing how there SocketCall.Watched opened between socket received sent refl refl refl by kept
 
 -- the socket was given a datagram, whatever it answered
 pub by_sent : {S : Type 0} (how : Relations S) (there : SocketAddr)

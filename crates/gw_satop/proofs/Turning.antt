@@ -1,5 +1,6 @@
 -- One more event of a circuit.
 use Rattle.std.proofs.Common.{◌≡◌, ℕ, Bool, true, List, [], ◌∷◌, ◌++◌, refl, sym, ap, ◌∙◌, append-nil, nat_lt}
+use Rattle.std.proofs.Common.{Result, Ok, Err, IfOk}
 use Rattle.satop_playout.specs.Calls.{PlayoutCall}
 use Rattle.satop_playout.specs.Laws.{arrivals_of}
 use Rattle.satop_playout.specs.Plays.{given_octets, is_there, reach_after}
@@ -186,3 +187,8 @@ heard receiver receiver' pace pace' counts counts' flags received datagram went 
       ) refl;
       went_are = rw (← became, same) k.went_are;
     }
+
+-- What holds anyway holds if a call ended well.
+pub anyway : {T E P : Type 0} (r : Result T E) → P → IfOk r (λ _. P)
+anyway (Ok x) p = p
+anyway (Err e) p = tt

@@ -100,17 +100,8 @@ pub record CountsSends (counts : Counts) (flags taken : List Bool) : Type 0 wher
   pub sent_is : counts.sent ≡ min (count_by (λ t. t) sends) (2 ^ 64 - 1)
   pub unsent_is : counts.unsent ≡ min (count_by not sends) (2 ^ 64 - 1)
 
--- the clock told this time last, and these counts were reported behind it
-pub record TellsLast {M : Type 0} (tells : M → M → ℕ → Type 0) (has_told : M → M → Counts → Type 0)
-    (time : M → ℕ) (clock : M) (now : ℕ) (counts : Counts) : Type 0 where
-  pub before : M
-  pub behind : M
-  pub told : tells before behind now
-  pub reported : has_told behind clock counts
-  pub stands : time clock ≡ now
-
 -- Counts are reported if they are others than those that were reported last, and a second has passed since.
-abbrev pub ReportsChanges : ℕ → Counts → Counts × ℕ → (Counts → Type 0) → Counts × ℕ → Type 0
-ReportsChanges now counts last has_told result =
+abbrev pub ReportsChanges : ℕ → Counts → Counts × ℕ → Counts × ℕ → Type 0
+ReportsChanges now counts last result =
     ((result ≡ last) × ((counts ≡ last.0) ⊎ (now - last.1 < 1000000)))
-    ⊎ ((result ≡ (counts, now)) × has_told counts × (counts ≢ last.0) × (1000000 ≤ now - last.1))
+    ⊎ ((result ≡ (counts, now)) × (counts ≢ last.0) × (1000000 ≤ now - last.1))

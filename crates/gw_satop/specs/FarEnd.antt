@@ -4,16 +4,15 @@ use Rattle.std.specs.Prelude.{Result, Ok, Err, is_ok}
 use Rattle.std.specs.declared.net.socket_addr.SocketAddr.{SocketAddr}
 use Rattle.gw_records.specs.declared.ports.PortFault.{PortFault}
 use Rattle.gw_satop.specs.declared.log.History.{History}
-use Rattle.gw_udp.specs.Socket.{Bound, KeepsBound, Received, ReceivesAny, Sent}
+use Rattle.gw_udp.specs.Socket.{Received, ReceivesAny, Sent}
 
--- a call of the socket: it received a datagram, found none or failed, was given one to send, which the system
--- took or not, or was watched
+-- a call of the socket: it received a datagram, found none or failed, or was given one to send, which the
+-- system took or not
 pub data SocketCall : Type 0 where
   Heard : (octets : List ℕ) → SocketCall
   FoundNone : SocketCall
   Failed : SocketCall
   Given : (octets : List ℕ) → (taken : Bool) → SocketCall
-  Watched : SocketCall
 
 -- the datagrams that a call received, and those that it was given
 abbrev pub received_by : SocketCall → List (List ℕ)
@@ -31,7 +30,6 @@ taken_of call = []
 
 -- the relations of a socket
 pub record Relations (S : Type 0) : Type 1 where
-  pub is_bound : Bound S
   pub receives : Received S
   pub sends : Sent S
 
@@ -51,7 +49,6 @@ IsCalled how there SocketCall.Failed old new =
     (fault : PortFault) × (room : List ℕ) × ReceivesAny how.receives old new (Err fault) room
 IsCalled how there (SocketCall.Given octets taken) old new = (answer : Result (Unit {0}) PortFault)
     × how.sends old new there octets answer × (taken ≡ is_ok answer)
-IsCalled how there SocketCall.Watched old new = KeepsBound how.is_bound old new
 
 -- the last call of a socket was a receive that found none, or failed
 abbrev pub HasFoundNone : {S : Type 0} → Received S → S → Type 0

@@ -9,7 +9,5 @@ pub mod Turns
 pub mod Session
 pub mod Doing
 pub mod Playing
-pub mod Opening
 pub mod FarEnd
 pub mod System
-pub mod ClockWaits

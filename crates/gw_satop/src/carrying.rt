@@ -1,79 +1,34 @@
 //! The loop of `satop` until its trunk ends, and when its counts are reported (`carry_satop`).
 
-ghost use Rattle.std.specs.Prelude.{◌≡◌, ◌⊎◌, ◌≤◌, ◌+◌, ◌^◌, ◌++◌, [], ℕ, IfOk, IfErr, ⊤};
-ghost use Rattle.gw_satop.specs.Counts.{CountsSends, ReportsChanges, TellsLast};
-ghost use Rattle.gw_satop.specs.Doing.{HearsAll, RefusesOctets};
+ghost use Rattle.std.specs.Prelude.{◌≡◌, ◌⊎◌, ◌≤◌, ◌^◌, ◌++◌, [], length, IfOk, IfErr};
+ghost use Rattle.gw_satop.specs.Counts.{CountsSends, ReportsChanges};
+ghost use Rattle.gw_satop.specs.Doing.{HasHeardAll, RefusesOctets};
 ghost use Rattle.gw_satop.specs.Session.{HasSettings, PlaysAll, SendsAll};
 
 use crate::circuit::SatopCircuit;
 use crate::counts::Counts;
-use crate::peer::Peer;
+use crate::system::SystemClock;
 use gw_trunk::{DeviceFault, TrunkInput, TrunkOutput};
+use gw_udp::Socket;
+use std::rt::Clock;
 
 // Counts are reported so often at most.
 const REPORT_US: u64 = 1_000_000;
 
-/// What an emulated circuit has of the system besides its devices.
-///
-/// The relations are the type's own: a caller that does not know the type has them of a call alone.
-pub trait Clock {
-    ghost use Rattle.gw_satop.specs.declared.counts.Counts.{Counts};
-
-    /// The time that it told last.
-    ghost time: { Self → ℕ };
-
-    /// How many times it waited.
-    ghost waits: { Self → ℕ };
-
-    /// Relates a clock before and after it was asked for the time to the time that it told.
-    ghost tells: { Self → Self → ℕ → Type 0 } = { λ _ _ _. ⊤ };
-
-    /// Relates a clock before and after a wait to the time that it waited until.
-    ghost waits_until: { Self → Self → ℕ → Type 0 } = { λ _ _ _. ⊤ };
-
-    /// Relates a clock before and after a report to the counts.
-    ghost has_told: { Self → Self → Counts → Type 0 } = { λ _ _ _. ⊤ };
-
-    /// Holds of a clock that was asked for the time. After a wait it is not known.
-    ghost is_asked: { Self → Type 0 } = { λ _. ⊤ };
-
-    /// The time, in microseconds of one clock.
-    fn now(&mut self) -> u64
-        ensures time { result ≡ time self.new }
-        ensures tells { tells self.old self.new result }
-        ensures asked { is_asked self.new }
-        ensures waits { waits self.new ≡ waits self.old };
-
-    /// Waits until something may have come, or for this time, once it was asked for the time.
-    fn wait(&mut self, until: u64)
-        requires { is_asked self.old }
-        ensures waits { waits self.new ≡ waits self.old + 1 }
-        ensures until { waits_until self.old self.new until };
-
-    /// Reports counts. It never waits.
-    fn report(&mut self, counts: &Counts)
-        ensures time { time self.new ≡ time self.old }
-        ensures waits { waits self.new ≡ waits self.old }
-        ensures asked { is_asked self.old → is_asked self.new }
-        ensures told { has_told self.old self.new counts.now };
-}
-
 // Reports the counts if they have changed, at most once a second. Returns those reported last, and when.
-fn report_changes<M: Clock>(
-    moments: &mut M,
+fn report_changes<R: Clock + Eprint>(
+    clock: &mut SystemClock<'_, R>,
     now: u64,
     counts: Counts,
     last: (Counts, u64),
 ) -> (Counts, u64)
-    ensures reports { ReportsChanges now counts last (M.has_told moments.old moments.new) result }
-    ensures time { M.time moments.new ≡ M.time moments.old }
-    ensures waits { M.waits moments.new ≡ M.waits moments.old }
-    ensures asked { M.is_asked moments.old → M.is_asked moments.new }
+    ensures reports { ReportsChanges now counts last result }
+    ensures waits { clock.new.waits ≡ clock.old.waits }
 {
     if counts == last.0 || now.saturating_sub(last.1) < REPORT_US {
         return last;
     }
-    moments.report(&counts);
+    clock.report(&counts);
     (counts, now)
 }
 
@@ -87,35 +42,34 @@ fn report_changes<M: Clock>(
 ///
 /// [`DeviceFault`] if a device of the trunk fails, or takes no octet, or if it was waited for 2^63 times. All
 /// clauses hold then too, and what the trunk did not take is left.
-pub fn carry_satop<I: TrunkInput, O: TrunkOutput, P: Peer, M: Clock>(
-    circuit: &mut SatopCircuit<I, O, P>,
-    moments: &mut M,
+pub fn carry_satop<I: TrunkInput, O: TrunkOutput, S: Socket, R: Clock + Eprint>(
+    circuit: &mut SatopCircuit<I, O, S>,
+    clock: &mut SystemClock<'_, R>,
 ) -> Result<(), DeviceFault>
     ensures plays { ∥ PlaysAll circuit.new.receiver circuit.new.pace circuit.new.counts
-        circuit.new.sender.log.flags (P.received circuit.new.peer)
+        circuit.new.sender.log.flags circuit.new.peer.received.datagrams
         (O.went circuit.new.outgoing ++ circuit.new.left.items) ∥₁ }
-    ensures sends { SendsAll circuit.new.sender (P.sent circuit.new.peer) (I.came circuit.new.incoming) }
+    ensures sends { SendsAll circuit.new.sender circuit.new.peer.sent.datagrams
+        (I.came circuit.new.incoming) }
     ensures same { HasSettings circuit.old.receiver circuit.new.receiver
         circuit.old.sender circuit.new.sender circuit.old.pace circuit.new.pace }
     ensures counted { ∥ CountsSends circuit.new.counts circuit.new.sender.log.flags
-        (P.taken circuit.new.peer) ∥₁ }
+        circuit.new.peer.sent.flags ∥₁ }
     ensures ended { IfOk result (λ _. I.has_ended circuit.new.incoming × (circuit.new.left.items ≡ [])) }
-    ensures hears { IfOk result (λ _. (before : P) × HearsAll P.received P.has_none before circuit.new.peer) }
-    ensures tells { IfOk result (λ _. TellsLast M.tells M.has_told M.time moments.new
-        circuit.new.pace.counted circuit.new.counts) }
+    ensures hears { IfOk result (λ _. HasHeardAll S.receives circuit.new.peer) }
     ensures fault { IfErr result (λ _. (I.has_failed circuit.new.incoming
         ⊎ RefusesOctets O.has_failed O.has_taken O.waits circuit.new.outgoing)
-        ⊎ (2 ^ 63 ≤ M.waits moments.new)) }
+        ⊎ (2 ^ 63 ≤ length clock.new.waits.octets)) }
 {
-    let mut last = (circuit.counts(), moments.now());
+    let mut last = (circuit.counts(), clock.now());
     for _turn in 0..u64::MAX {
-        let now = moments.now();
+        let now = clock.now();
         if circuit.turn(now)? {
-            moments.report(&circuit.counts());
+            clock.report(&circuit.counts());
             return circuit.flush();
         }
-        last = report_changes(moments, now, circuit.counts(), last);
-        moments.wait(circuit.plan());
+        last = report_changes(clock, now, circuit.counts(), last);
+        clock.wait(circuit.plan());
     }
     Err(DeviceFault)
 }

@@ -2,10 +2,11 @@
 
 ghost use Rattle.std.specs.Prelude.{◌≡◌, ◌⊎◌, ◌++◌, ◌∷◌, ◌+◌, ◌<◌, ◌≤◌, [], ℕ, Bool, List, length, drop};
 ghost use Rattle.std.specs.Prelude.{true, false, nat_lt, IfOk, IfErr};
-ghost use Rattle.gw_trunk.specs.Device.{ReadResult};
 ghost use Rattle.gw_satop.specs.declared.line.Receiver.{Receiver};
 ghost use Rattle.gw_satop.specs.declared.pace.PlayClock.{PlayClock};
-ghost use Rattle.gw_satop.specs.Doing.{HasReadTrunk, HearsAll, IsDueNow, PlaysDue, RefusesOctets};
+ghost use Rattle.gw_satop.specs.Doing.{HasHeardAll, HearsAll, IsDueNow, PlaysDue};
+ghost use Rattle.gw_satop.specs.Doing.{RefusesOctets};
+ghost use Rattle.gw_satop.specs.FarEnd.{HasFoundNone};
 ghost use Rattle.gw_satop.specs.Session.{HasNoTraffic, HasSettings, PlaysAll, SendsAll};
 ghost use Rattle.gw_satop.specs.Counts.{counts_by_play, no_counts, CountsSends};
 ghost use Rattle.gw_satop.specs.Line.{HasPlayed};
@@ -16,10 +17,11 @@ ghost use Rattle.satop_playout.specs.Plays.{is_there, reach_after};
 use crate::counts::Counts;
 use crate::line::Receiver;
 use crate::pace::PlayClock;
-use crate::peer::Peer;
+use crate::peer::UdpPeer;
 use crate::sender::Sender;
 use arrayvec::ArrayVec;
 use gw_trunk::{DeviceFault, DeviceRead, TrunkInput, TrunkOutput};
+use gw_udp::Socket;
 use satop_playout::MAX_SIZE;
 
 // Room for a datagram, and for a read of the trunk: 8 ms.
@@ -33,20 +35,20 @@ const MOST_PLAYS: usize = 8_192;
 
 /// An emulated circuit: the octets of a trunk on one side, packets to and from the far end on the other.
 #[derive(Drop)]
-pub struct SatopCircuit<I: TrunkInput, O: TrunkOutput, P: Peer> {
+pub struct SatopCircuit<I: TrunkInput, O: TrunkOutput, S: Socket> {
     incoming: I,
     outgoing: O,
-    peer: P,
+    peer: UdpPeer<S>,
     receiver: Receiver,
     sender: Sender,
     pace: PlayClock,
     counts: Counts,
     // played, and not taken by the trunk yet
     left: ArrayVec<u8, 1280>,
-    ghost plays: { ∥ PlaysAll receiver pace counts sender.log.flags (P.received peer)
+    ghost plays: { ∥ PlaysAll receiver pace counts sender.log.flags peer.received.datagrams
         (O.went outgoing ++ left.items) ∥₁ },
-    ghost sends: { SendsAll sender (P.sent peer) (I.came incoming) },
-    ghost counted: { ∥ CountsSends counts sender.log.flags (P.taken peer) ∥₁ },
+    ghost sends: { SendsAll sender peer.sent.datagrams (I.came incoming) },
+    ghost counted: { ∥ CountsSends counts sender.log.flags peer.sent.flags ∥₁ },
 }
 
 // Drops the first octets that are left for the trunk.
@@ -111,19 +113,19 @@ fn play_into(
 }
 
 // Sends octets of the trunk as packets. `missing` is whether packets are missing at this end.
-fn send_all<P: Peer>(
+fn send_all<S: Socket>(
     sender: &mut Sender,
-    peer: &mut P,
+    peer: &mut UdpPeer<S>,
     counts: &mut Counts,
     missing: bool,
     octets: &[u8],
 )
-    requires { SendsAll sender.old (P.sent peer.old) sender.old.came.octets }
-    ensures sends { SendsAll sender.new (P.sent peer.new) (sender.old.came.octets ++ octets.now) }
-    ensures received { P.received peer.new ≡ P.received peer.old }
+    requires { SendsAll sender.old peer.old.sent.datagrams sender.old.came.octets }
+    ensures sends { SendsAll sender.new peer.new.sent.datagrams (sender.old.came.octets ++ octets.now) }
+    ensures received { peer.new.received.datagrams ≡ peer.old.received.datagrams }
     ensures start { sender.new.start ≡ sender.old.start }
-    ensures counted { CountsSends counts.old sender.old.log.flags (P.taken peer.old)
-        → CountsSends counts.new sender.new.log.flags (P.taken peer.new) }
+    ensures counted { CountsSends counts.old sender.old.log.flags peer.old.sent.flags
+        → CountsSends counts.new sender.new.log.flags peer.new.sent.flags }
     ensures plays { (receiver : Receiver) (pace : PlayClock) (received : List (List ℕ)) (went : List ℕ)
         → missing ≡ pace.silent
         → PlaysAll receiver pace counts.old sender.old.log.flags received went
@@ -139,19 +141,20 @@ fn send_all<P: Peer>(
     }
 }
 
-impl<I: TrunkInput, O: TrunkOutput, P: Peer> SatopCircuit<I, O, P> {
+impl<I: TrunkInput, O: TrunkOutput, S: Socket> SatopCircuit<I, O, S> {
     ghost use Rattle.gw_satop.specs.Playing.{OnlyFlushes, OnlyPlays};
 
     /// A circuit before any octet and datagram.
     pub fn new(
         incoming: I,
         outgoing: O,
-        peer: P,
+        peer: UdpPeer<S>,
         receiver: Receiver,
         sender: Sender,
         pace: PlayClock,
-    ) -> SatopCircuit<I, O, P>
-        requires ends { HasNoTraffic (I.came incoming) (O.went outgoing) (P.received peer) (P.sent peer) }
+    ) -> SatopCircuit<I, O, S>
+        requires ends { HasNoTraffic (I.came incoming) (O.went outgoing) peer.received.datagrams
+            peer.sent.datagrams }
         requires receiver { HasPlayed receiver [] }
         requires pace { pace ≡ new_pace pace.timing pace.counted }
         requires sender { sender.came.octets ≡ [] }
@@ -204,9 +207,9 @@ impl<I: TrunkInput, O: TrunkOutput, P: Peer> SatopCircuit<I, O, P> {
         ensures same { HasSettings self.old.receiver self.new.receiver self.old.sender self.new.sender
             self.old.pace self.new.pace }
         ensures heard { result ≡ true → (datagram : List ℕ)
-            × (P.received self.new.peer ≡ P.received self.old.peer ++ datagram ∷ []) }
-        ensures none { result ≡ false → P.has_none self.new.peer
-            × (P.received self.new.peer ≡ P.received self.old.peer) }
+            × (self.new.peer.received.datagrams ≡ self.old.peer.received.datagrams ++ datagram ∷ []) }
+        ensures none { result ≡ false → HasFoundNone S.receives self.new.peer.socket
+            × (self.new.peer.received.datagrams ≡ self.old.peer.received.datagrams) }
         ensures time { self.new.pace.counted ≡ self.old.pace.counted }
         ensures incoming { self.new.incoming ≡ self.old.incoming }
         ensures outgoing { self.new.outgoing ≡ self.old.outgoing }
@@ -302,11 +305,8 @@ impl<I: TrunkInput, O: TrunkOutput, P: Peer> SatopCircuit<I, O, P> {
         ensures same { HasSettings self.old.receiver self.new.receiver self.old.sender self.new.sender
             self.old.pace self.new.pace }
         ensures ended { IfOk result (λ ended. ended ≡ true → I.has_ended self.new.incoming) }
-        ensures reads { IfOk result (HasReadTrunk I.came I.has_none self.old.incoming self.new.incoming) }
-        ensures offers { IfOk result (λ _. (read : ReadResult)
-            × I.reads self.old.incoming self.new.incoming 2048 read) }
         ensures fault { IfErr result (λ _. I.has_failed self.new.incoming) }
-        ensures received { P.received self.new.peer ≡ P.received self.old.peer }
+        ensures received { self.new.peer.received.datagrams ≡ self.old.peer.received.datagrams }
         ensures receiver { self.new.receiver ≡ self.old.receiver }
         ensures pace { self.new.pace ≡ self.old.pace }
         ensures outgoing { self.new.outgoing ≡ self.old.outgoing }
@@ -335,7 +335,7 @@ impl<I: TrunkInput, O: TrunkOutput, P: Peer> SatopCircuit<I, O, P> {
             self.old.pace self.new.pace }
         ensures time { self.new.pace.counted ≡ self.old.pace.counted }
         ensures incoming { self.new.incoming ≡ self.old.incoming }
-        ensures hears { IfOk result (λ _. HearsAll P.received P.has_none self.old.peer self.new.peer) }
+        ensures hears { IfOk result (λ _. HearsAll S.receives self.old.peer self.new.peer) }
         ensures grows { IfOk result (λ _. length (O.went self.old.outgoing ++ self.old.left.items)
             ≤ length (O.went self.new.outgoing ++ self.new.left.items)) }
         ensures all { IfOk result (λ _. self.old.left.items ≡ [] → self.new.left.items ≡ []) }
@@ -352,7 +352,7 @@ impl<I: TrunkInput, O: TrunkOutput, P: Peer> SatopCircuit<I, O, P> {
 
     // Notes that all that came was read, so a silence may begin; then none is to begin any more.
     fn listen(&mut self)
-        requires { (before : P) × HearsAll P.received P.has_none before self.old.peer }
+        requires { HasHeardAll S.receives self.old.peer }
         ensures same { HasSettings self.old.receiver self.new.receiver self.old.sender self.new.sender
             self.old.pace self.new.pace }
         ensures listened { HasListened self.new.pace self.old.pace.counted }
@@ -373,13 +373,12 @@ impl<I: TrunkInput, O: TrunkOutput, P: Peer> SatopCircuit<I, O, P> {
         ensures same { HasSettings self.old.receiver self.new.receiver self.old.sender self.new.sender
             self.old.pace self.new.pace }
         ensures ended { IfOk result (λ ended. ended ≡ true → I.has_ended self.new.incoming) }
-        ensures hears { IfOk result (λ _. HearsAll P.received P.has_none self.old.peer self.new.peer) }
+        ensures hears { IfOk result (λ _. HearsAll S.receives self.old.peer self.new.peer) }
         ensures plays { IfOk result (λ _. PlaysDue self.new.receiver self.new.pace
             self.old.receiver.settings.size (O.went self.old.outgoing ++ self.old.left.items)
             (O.went self.new.outgoing ++ self.new.left.items)) }
         ensures listened { IfOk result (λ _. HasListened self.new.pace now) }
         ensures all { IfOk result (λ _. self.old.left.items ≡ [] → self.new.left.items ≡ []) }
-        ensures reads { IfOk result (HasReadTrunk I.came I.has_none self.old.incoming self.new.incoming) }
         ensures fault { IfErr result (λ _. I.has_failed self.new.incoming
             ⊎ RefusesOctets O.has_failed O.has_taken O.waits self.new.outgoing) }
     {

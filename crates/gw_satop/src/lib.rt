@@ -14,14 +14,14 @@ mod sender;
 mod system;
 mod timing;
 
-pub use carrying::{Clock, carry_satop};
+pub use carrying::carry_satop;
 pub use circuit::SatopCircuit;
 pub use counts::Counts;
 pub use line::{DatagramOutcome, Receiver};
 pub use pace::PlayClock;
 pub use packet::PacketFault;
-pub use peer::{Peer, UdpPeer};
-pub use ready::{Readiness, WhenReady, open_input, open_output};
+pub use peer::{UdpPeer, open_socket};
+pub use ready::{WhenReady, open_input};
 pub use sender::{Sender, SenderSettings};
 pub use system::SystemClock;
 pub use timing::Timing;

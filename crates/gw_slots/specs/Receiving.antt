@@ -1,11 +1,9 @@
 -- What a receiver has made of the octets of a device, and how a device is read for it.
-use Rattle.std.specs.Prelude.{◌≡◌, ◌≤◌, ◌⊎◌, ℕ, ◌+◌, ◌*◌, ◌/◌, ◌%◌, ◌==◌, if◌then◌else◌, min, max, List, []}
-use Rattle.std.specs.Prelude.{◌∷◌, length, Option, Ok, Err, ⊤}
+use Rattle.std.specs.Prelude.{◌≡◌, ℕ, ◌+◌, ◌*◌, ◌/◌, ◌%◌, ◌==◌, if◌then◌else◌, min, max, List, [], ◌∷◌}
+use Rattle.std.specs.Prelude.{length}
 use Rattle.e1_g711.specs.declared.Law.{Law}
 use Rattle.e1_g711.specs.Law.{idle_code}
 use Rattle.g704_slots.specs.Mover.{HasHistory}
-use Rattle.gw_trunk.specs.Device.{ReadResult}
-use Rattle.gw_trunk.specs.declared.device.DeviceRead.TheVariants.{Octets, NoneNow, Ended}
 use Rattle.gw_slots.specs.Frames.{slot_0, first_of, whole_trunk}
 use Rattle.gw_slots.specs.declared.receiving.SlotReceiver.{SlotReceiver}
 
@@ -32,26 +30,3 @@ longest_made = 2112
 -- how many octets of a device are read for this room: those of the whole frames that fit, 64 at most
 abbrev pub most_read : ℕ → ℕ
 most_read room = min longest_read (max 1 (room / 32 * 31))
-
--- What is returned if a read of the device returned this: at least as many octets, or the same.
-abbrev pub TellsOf : ReadResult → ReadResult → Type 0
-TellsOf (Ok (Octets n)) told = (m : ℕ) × (n ≤ m) × (told ≡ Ok (Octets m))
-TellsOf (Ok NoneNow) told = told ≡ Ok NoneNow
-TellsOf (Ok Ended) told = told ≡ Ok Ended
-TellsOf (Err fault) told = told ≡ Err fault
-
--- What is held is given as far as there is room: none is held any more, or the room is full.
-abbrev pub GivesAll : List ℕ → ℕ → ReadResult → Type 0
-GivesAll held room (Ok (Octets n)) = (held ≡ []) ⊎ (n ≡ room)
-GivesAll held room (Ok NoneNow) = ⊤
-GivesAll held room (Ok Ended) = ⊤
-GivesAll held room (Err fault) = ⊤
-
--- The device was read for this room, and its result is returned. What has become of slot 16 was reported, or
--- is as it was reported last.
-pub record ReadsSlots (reads : ℕ → ReadResult → Type 0) (has_told : Option ℕ → Type 0)
-    (before told : Option ℕ) (room : ℕ) (result : ReadResult) : Type 0 where
-  pub read : ReadResult
-  pub device : reads (most_read room) read
-  pub tells : TellsOf read result
-  pub late : (told ≡ before) ⊎ has_told told

@@ -1,10 +1,10 @@
 //! What comes of a trunk whose device has slots 1 to 31 alone (`SlotInput`).
 
-ghost use Rattle.std.specs.Prelude.{◌≡◌, ◌⊎◌, ◌+◌, ◌*◌, ◌<◌, ◌≤◌, ◌++◌, ◌||◌, ◌&&◌, ℕ, Option, List, [], ⊤};
-ghost use Rattle.std.specs.Prelude.{length, min, take, is_some, not, true, false, MatchOption, IfOk};
+ghost use Rattle.std.specs.Prelude.{◌≡◌, ◌⊎◌, ◌+◌, ◌*◌, ◌<◌, ◌≤◌, ◌++◌, ◌||◌, ◌&&◌, ℕ, List, [], ⊤};
+ghost use Rattle.std.specs.Prelude.{length, min, take, is_some, not, false, MatchOption, IfOk};
 ghost use Rattle.e1_g711.specs.declared.Law.{Law};
 ghost use Rattle.gw_trunk.specs.Device.{IsTaken, octets_taken};
-ghost use Rattle.gw_slots.specs.Receiving.{HasMadeWhole, GivesAll, ReadsSlots, longest_read, most_read};
+ghost use Rattle.gw_slots.specs.Receiving.{HasMadeWhole, longest_read, most_read};
 ghost use Rattle.gw_slots.specs.Frames.{late_from};
 
 use crate::receiving::{DeviceSlots, SlotReceiver};
@@ -17,17 +17,9 @@ use std::marker::PhantomData;
 const MOST_READ: usize = 1984;
 
 /// A receiver of reports on slot 16: when it is found, and when it is lost.
-///
-/// The relation is the type's own: a caller that does not know the type has it of a call alone.
 pub trait SlotTeller {
-    ghost use Rattle.std.specs.Prelude.{ℕ, Option, ⊤};
-
-    /// Holds of what it received last.
-    ghost has_told: { Self → Option ℕ → Type 0 } = { λ _ _. ⊤ };
-
     /// Receives by how many octets others are delayed from now on; none if slot 16 is lost.
-    fn tell(&mut self, late: Option<u8>)
-        ensures { has_told self.new late };
+    fn tell(&mut self, late: Option<u8>);
 }
 
 /// A trunk whose device has slots 1 to 31 alone, if its receiver is used: what comes has slot 0 again, and
@@ -109,7 +101,6 @@ fn make(
 fn tell<T: SlotTeller>(slots: &SlotReceiver, teller: &mut T, told: &mut Option<u8>)
     ensures late { (law : Law) (place : ℕ) (taken made : List ℕ) → HasMadeWhole slots.now law place taken made
         → told.new ≡ late_from place taken }
-    ensures told { (told.new ≡ told.old) ⊎ T.has_told teller.new told.new }
 {
     let late = slots.late();
     if late != *told {
@@ -149,17 +140,7 @@ impl<I: TrunkInput, T: SlotTeller, S: DeviceSlots> TrunkInput for SlotInput<I, T
 
     ghost has_ended = { λ d. I.has_ended d.incoming };
 
-    ghost has_none = { λ d. I.has_none d.incoming };
-
     ghost has_failed = { λ d. I.has_failed d.incoming };
-
-    ghost reads = { λ d d' room told. MatchOption d.slots (I.reads d.incoming d'.incoming room told)
-        (λ _. GivesAll d'.held.items room told × (((d'.only_held ≡ true) × (0 < length d.held.items))
-        ⊎ ReadsSlots (I.reads d.incoming d'.incoming) (T.has_told d'.teller) d.told d'.told room told)) };
-
-    ghost commands = { λ d d' told. d.only_held ≡ true ⊎ I.commands d.incoming d'.incoming told };
-
-    ghost sleeps = { λ d d'. I.sleeps d.incoming d'.incoming };
 
     ghost waits = { λ d. I.waits d.incoming };
 

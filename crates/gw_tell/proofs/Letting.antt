@@ -6,7 +6,7 @@ use Rattle.gw_switch.specs.declared.gateway.Gateway.{Gateway}
 use Rattle.gw_tell.specs.declared.place.ClientSlot.{ClientSlot}
 use Rattle.gw_tell.specs.declared.teller.Teller.{Teller}
 use Rattle.gw_tell.specs.Clients.{at, AllFree, AllHaveRoom, IsOpen}
-use Rattle.gw_tell.specs.Telling.{Accepts, FindsNobody, LetAllIn, LetsIn, Welcomes}
+use Rattle.gw_tell.specs.Telling.{AsksDoor, LetAllIn, LetsIn, Welcomes}
 
 -- one client was let in for each of this many connections
 abbrev pub HasLetIn : Gateway → ℕ → Teller → Teller → Type 0
@@ -15,7 +15,7 @@ HasLetIn gateway turns first now = (streams : List UnixStream) × (length stream
 
 -- One more is let in.
 let-more : (gateway : Gateway) (streams : List UnixStream) (stream : UnixStream)
-    (first before opened after : Teller) → LetAllIn gateway streams first before → Accepts stream before opened
+    (first before opened after : Teller) → LetAllIn gateway streams first before → AsksDoor before opened
     → Welcomes gateway stream opened after → LetAllIn gateway (streams ++ stream ∷ []) first after
 let-more gateway [] stream first before opened after all accepted one =
     (opened, after, rw all at accepted, one, refl)
@@ -24,7 +24,7 @@ let-more gateway (s ∷ streams) stream first before opened after all accepted o
 
 -- .. in the next turn
 pub one-let-in : (gateway : Gateway) (turns : ℕ) (stream : UnixStream) (first before opened after : Teller)
-    → HasLetIn gateway turns first before → Accepts stream before opened
+    → HasLetIn gateway turns first before → AsksDoor before opened
     → Welcomes gateway stream opened after → HasLetIn gateway (turns + 1) first after
 one-let-in gateway turns stream first before opened after (streams, count, all) accepted one = (
   streams ++ stream ∷ [],
@@ -34,7 +34,7 @@ one-let-in gateway turns stream first before opened after (streams, count, all) 
 
 -- Nobody is found at the door.
 pub nobody-let-in : (gateway : Gateway) (turns : ℕ) (first now last : Teller) → turns < 8
-    → HasLetIn gateway turns first now → FindsNobody now last → LetsIn gateway first last
+    → HasLetIn gateway turns first now → AsksDoor now last → LetsIn gateway first last
 nobody-let-in gateway turns first now last fewer (streams, count, all) nobody =
     record { streams = streams; last = now; all = all; ends = inr (omega (arith, count, fewer), nobody) }
 

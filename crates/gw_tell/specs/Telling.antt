@@ -4,7 +4,7 @@ use Rattle.mio.specs.declared.net.uds.stream.UnixStream.{UnixStream}
 use Rattle.e1_g711.specs.declared.Law.{Law}
 use Rattle.gw_switch.specs.declared.gateway.Gateway.{Gateway}
 use Rattle.gw_records.specs.Records.{Record}
-use Rattle.gw_trunk.specs.System.{SystemAccepted, SystemHasNobody, SystemWrote}
+use Rattle.gw_trunk.specs.System.{SystemWrote}
 use Rattle.gw_tell.specs.declared.teller.Teller.{Teller}
 use Rattle.gw_tell.specs.Clients.{at, AllAreHeard, AllAreTold, AllFree, AllTaken, OnlyAt, Seats}
 use Rattle.gw_tell.specs.declared.gateway_status.GatewayStatus.{GatewayStatus}
@@ -59,18 +59,14 @@ pub record HasPlace (gateway : Gateway) (stream : UnixStream) (t t' : Teller) : 
 abbrev pub Welcomes : Gateway → UnixStream → Teller → Teller → Type 0
 Welcomes gateway stream t t' = (AllTaken t.places × (t' ≡ t)) ⊎ HasPlace gateway stream t t'
 
--- a connection was accepted at the door
-abbrev pub Accepts : UnixStream → Teller → Teller → Type 0
-Accepts stream t t' = SystemAccepted t.door t'.door stream × (t' ≡ record t { door = t'.door })
-
--- nobody was found there
-abbrev pub FindsNobody : Teller → Teller → Type 0
-FindsNobody t t' = SystemHasNobody t.door t'.door × (t' ≡ record t { door = t'.door })
+-- the door was asked for a connection
+abbrev pub AsksDoor : Teller → Teller → Type 0
+AsksDoor t t' = t' ≡ record t { door = t'.door }
 
 -- connections were accepted, one after another, and each was welcomed
 abbrev pub LetAllIn : Gateway → List UnixStream → Teller → Teller → Type 0
 LetAllIn gateway [] t t' = t' ≡ t
-LetAllIn gateway (stream ∷ streams) t t' = (opened between : Teller) × Accepts stream t opened
+LetAllIn gateway (stream ∷ streams) t t' = (opened between : Teller) × AsksDoor t opened
     × Welcomes gateway stream opened between × LetAllIn gateway streams between t'
 
 -- Connections were accepted until nobody was found at the door, or eight.
@@ -78,7 +74,7 @@ pub record LetsIn (gateway : Gateway) (t t' : Teller) : Type 0 where
   pub streams : List UnixStream
   pub last : Teller
   pub all : LetAllIn gateway streams t last
-  pub ends : ((length streams ≡ 8) × (t' ≡ last)) ⊎ ((length streams < 8) × FindsNobody last t')
+  pub ends : ((length streams ≡ 8) × (t' ≡ last)) ⊎ ((length streams < 8) × AsksDoor last t')
 
 -- clients are looked at behind a record of the trunk: behind each if there is none, else once in 8,192 octets
 abbrev pub IsLook : Record → ℕ → Teller → Type 0

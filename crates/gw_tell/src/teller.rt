@@ -3,8 +3,7 @@
 ghost use Rattle.std.specs.Prelude.{◌≡◌, ◌<◌, ◌≤◌, ℕ, List, true, false, length, take, drop};
 ghost use Rattle.std.specs.Prelude.{IfSome, IfNone, IfOk, None};
 ghost use Rattle.gw_records.specs.Records.{named};
-ghost use Rattle.gw_trunk.specs.Door.{HasMadeSuch, TriesDoor};
-ghost use Rattle.gw_trunk.specs.System.{SystemListens, SystemWrote};
+ghost use Rattle.gw_trunk.specs.System.{SystemWrote};
 ghost use Rattle.gw_tell.specs.Lines.{at_line, end_line};
 ghost use Rattle.gw_tell.specs.Clients.{AllAreHeard, AllAreTold, AllFree, AllHaveRoom, AllTaken, at};
 ghost use Rattle.gw_tell.specs.Clients.{Gets, IsOpen};
@@ -22,10 +21,12 @@ use g704_cas::CircuitNo;
 use gw_records::RecordHead;
 use gw_session::Watch;
 use gw_switch::Gateway;
-use gw_trunk::{Door, Doors, open_door};
+use gw_trunk::{Door, open_door};
 use mio::net::UnixStream;
 use std::alloc::Global;
 use std::io;
+use std::net::Net;
+use std::rt::Files;
 
 // How many clients there may be at once.
 const MOST_CLIENTS: usize = 8;
@@ -115,29 +116,25 @@ fn open_places(alloc: Global) -> io::Result<[ClientSlot<UnixStream>; 8]>
 
 impl Teller {
     ghost use Rattle.gw_tell.specs.Clients.{OnlyAt, Seats};
-    ghost use Rattle.gw_tell.specs.Telling.{Accepts, FindsNobody, HasBegun, IsLook, KeepsPlace, LetsIn};
+    ghost use Rattle.gw_tell.specs.Telling.{AsksDoor, HasBegun, IsLook, KeepsPlace, LetsIn};
     ghost use Rattle.gw_tell.specs.Telling.{TellsChanges, Welcomes};
     ghost use Rattle.gw_tell.specs.Reports.{place_after, whole_state};
     ghost use Rattle.gw_tell.specs.Seizures.{AreCounted};
 
     /// Listens at a path, with no client yet, and takes the memory of all places. The error is the system's,
     /// or that memory was refused.
-    #[tactic(auto, using(gw_trunk::proofs::Opening::tried))]
-    pub fn open<D: Doors>(
-        alloc: Global,
-        doors: &mut D,
+    pub fn open(
+        rt: &(impl Files + Net + AllocGlobal),
         path: &str,
         law: Law,
         gateway: &Gateway,
     ) -> io::Result<Teller>
-        ensures begun { IfOk result (λ t. HasBegun t law gateway.now) }
-        ensures door { IfOk result (λ t. SystemListens path.now t.door.listener) }
-        ensures calls { HasMadeSuch D.has_made doors.old doors.new (TriesDoor path.now) }
+        ensures { IfOk result (λ t. HasBegun t law gateway.now) }
     {
-        let door = open_door(doors, path)?;
+        let door = open_door(rt, path)?;
         Ok(Teller {
             door: Door::new(door),
-            places: open_places(alloc)?,
+            places: open_places(rt.alloc())?,
             law,
             place: 0,
             told: GatewayStatus::of(gateway),
@@ -233,8 +230,7 @@ impl Teller {
 
     // Accepts a connection, if one waits, and returns it.
     fn accept_one(&mut self) -> Option<UnixStream>
-        ensures some { IfSome result (λ stream. Accepts stream self.old self.new) }
-        ensures none { IfNone result (FindsNobody self.old self.new) }
+        ensures { AsksDoor self.old self.new }
     {
         self.door.accept()
     }

@@ -6,6 +6,3 @@ mod Thinning
 mod Rows
 pub mod KnownOctets
 pub mod Noting
-pub mod Answering
-pub mod Telling
-pub mod Opening

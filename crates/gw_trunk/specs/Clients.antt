@@ -1,26 +1,21 @@
 -- The clients of a trunk: what they give and what they get (modules `client` and `clients`).
-use Rattle.std.specs.Prelude.{◌≡◌, ◌≢◌, ◌⊎◌, ◌==◌, ◌||◌, ◌&&◌, ◌+◌, ◌-◌, ◌<◌, ◌≤◌, ◌^◌, ◌%◌, ◌++◌, ◌∷◌, ⊤}
-use Rattle.std.specs.Prelude.{if◌then◌else◌, ℕ, ℤ, Bool, true, false, not, List, [], length, take}
+use Rattle.std.specs.Prelude.{◌≡◌, ◌≢◌, ◌⊎◌, ◌==◌, ◌||◌, ◌&&◌, ◌+◌, ◌-◌, ◌<◌, ◌≤◌, ◌^◌, ◌%◌, ◌++◌, ⊤}
+use Rattle.std.specs.Prelude.{if◌then◌else◌, ℕ, Bool, true, false, not, List, [], length, take}
 use Rattle.std.specs.Prelude.{slice_index_or, Option, Some, None, MatchOption, Result, Ok, Err}
 use Rattle.std.specs.declared.io.ErrorKind.{ErrorKind}
 use Rattle.std.specs.List.{list_any}
 use Rattle.mio.specs.declared.event.event.Event.{Event}
-use Rattle.mio.specs.declared.net.uds.listener.UnixListener.{UnixListener}
 use Rattle.mio.specs.declared.net.uds.stream.UnixStream.{UnixStream}
 use Rattle.mio.specs.Event.{event_token, is_read_closed}
 use Rattle.mio.specs.Events.{items}
-use Rattle.mio.specs.Interest.{is_readable}
-use Rattle.mio.specs.declared.interest.Interest.{Interest}
 use Rattle.gw_trunk.specs.declared.client.ClientPoll.{ClientPoll}
 use Rattle.gw_trunk.specs.declared.client.ClientPoll.TheVariants.{Command, Nothing, Gone}
 use Rattle.gw_trunk.specs.declared.client.Client.{Client}
 use Rattle.gw_trunk.specs.declared.clients.Clients.{Clients}
 use Rattle.gw_trunk.specs.declared.logged_reader.LoggedReader.{LoggedReader}
-use Rattle.gw_trunk.specs.Device.{AnswersByKind, GaveBehind, passed_count, is_broken_pipe}
+use Rattle.gw_trunk.specs.Device.{GaveBehind, passed_count, is_broken_pipe}
 use Rattle.gw_trunk.specs.Pieces.{AsksRecord, client_kinds}
-use Rattle.gw_trunk.specs.declared.readiness.Poller.{Poller}
-use Rattle.gw_trunk.specs.System.{SystemAccepted, SystemHasNobody, SystemGave, SystemOpened, SystemRenews}
-use Rattle.gw_trunk.specs.System.{SystemReports, SystemWatches, SystemWrote}
+use Rattle.gw_trunk.specs.System.{SystemWrote}
 use Rattle.gw_records.specs.declared.records.RecordHead.{RecordHead}
 use Rattle.gw_records.specs.declared.records.RecordsEnd.{RecordsEnd}
 use Rattle.gw_records.specs.Records.{end_of, is_open}
@@ -222,10 +217,9 @@ abbrev pub AreWoken : {S : Type 0} {m : _} → List Event → List (Option (Clie
 AreWoken events places places' = (k : ℕ) → k < 8
     → IsWokenAt (comes (k + 2) events) (leaves (k + 2) events) (at places k) (at places' k)
 
--- The system was asked for events once, for a time at most, and they are noted: those of the trunk, of the
--- door, of what asks for the end, and of clients.
-pub record Looks (limit : Option ℕ) (clients clients' : Clients) : Type 0 where
-  pub reported : SystemReports clients.poller clients'.poller limit (items clients'.poller.events)
+-- The events that the system reported last are noted: those of the trunk, of the door, of what asks for the
+-- end, and of clients.
+pub record Looks (clients clients' : Clients) : Type 0 where
   pub octets_is : clients'.octets ≡ (comes 0 (items clients'.poller.events) || clients.octets)
   pub knocks_is : clients'.knocks ≡ (comes 1 (items clients'.poller.events) || clients.knocks)
   pub ends_is : clients'.ends ≡ (comes 10 (items clients'.poller.events) || clients.ends)
@@ -237,13 +231,6 @@ pub record Looks (limit : Option ℕ) (clients clients' : Clients) : Type 0 wher
     ends = clients'.ends;
     places = clients'.places;
   }
-
--- the same, once the system was asked to report octets of the trunk that came before
-abbrev pub LooksAnew : Option ℕ → Clients → Clients → Type 0
-LooksAnew limit clients clients' = (interest : Interest) × (agreed : Bool) × (renewed : Poller)
-    × (is_readable interest ≡ true)
-    × SystemRenews clients.poller renewed clients.descriptor interest agreed
-    × Looks limit (record clients { poller = renewed }) clients'
 
 -- The rank of a place for a new client: it takes the lowest, a free one, else that of a client that has left,
 -- else that of the one that came first of those who never gave a record; never one of the last rank.
@@ -270,7 +257,6 @@ IsNew stream number (Some client) = (client.start.value ≡ stream) × (client.n
 
 -- a connection is that of a client who is new at this place
 pub record HasNew (stream : UnixStream) (place : ℕ) (clients clients' : Clients) : Type 0 where
-  pub watched : SystemWatches clients.poller clients'.poller stream (place + 2) true
   pub is_new : IsNew stream clients.came (at clients'.places place)
   pub others : OnlyAt place clients.places clients'.places
   pub same : clients' ≡ record clients {
@@ -284,99 +270,14 @@ pub record HasNew (stream : UnixStream) (place : ℕ) (clients clients' : Client
 abbrev pub Places : UnixStream → Clients → Clients → Type 0
 Places stream clients clients' = (AreAllKnown clients.places × (clients' ≡ clients))
     ⊎ ((place : ℕ) × MakesRoom clients.places place × (HasNew stream place clients clients'
-    ⊎ (SystemWatches clients.poller clients'.poller stream (place + 2) false
-    × (clients' ≡ record clients { poller = clients'.poller }))))
-
--- a connection was accepted at the door
-abbrev pub Accepts : UnixStream → Clients → Clients → Type 0
-Accepts stream clients clients' = SystemAccepted clients.door clients'.door stream
-    × (clients' ≡ record clients { door = clients'.door })
-
--- .. and is that of a new client, or dropped
-pub record LetsIn (stream : UnixStream) (clients clients' : Clients) : Type 0 where
-  pub opened : Clients
-  pub accepted : Accepts stream clients opened
-  pub does : Places stream opened clients'
-
--- nobody was found at the door, and it is noted that nobody knocks
-abbrev pub FindsNobody : Clients → Clients → Type 0
-FindsNobody clients clients' = SystemHasNobody clients.door clients'.door
-    × (clients' ≡ record clients { door = clients'.door; knocks = false })
-
--- connections were accepted, one after another, and each client was let in
-abbrev pub LetAllIn : List UnixStream → Clients → Clients → Type 0
-LetAllIn [] clients clients' = clients' ≡ clients
-LetAllIn (stream ∷ streams) clients clients' =
-    (between : Clients) × LetsIn stream clients between × LetAllIn streams between clients'
-
--- Connections were accepted until nobody was found at the door, or eight.
-pub record AnswersDoor (clients clients' : Clients) : Type 0 where
-  pub streams : List UnixStream
-  pub last : Clients
-  pub let_in : LetAllIn streams clients last
-  pub ends : ((length streams ≡ 8) × (clients' ≡ last)) ⊎ ((length streams < 8) × FindsNobody last clients')
-
--- the door is answered if somebody knocks
-abbrev pub AnswersKnock : Clients → Clients → Type 0
-AnswersKnock clients clients' = ((clients.knocks ≡ false) × (clients' ≡ clients))
-    ⊎ ((clients.knocks ≡ true) × AnswersDoor clients clients')
-
--- .. and it is looked for before where the trunk is a file, for which the system was not asked
-abbrev pub ServesDoor : Clients → Clients → Type 0
-ServesDoor clients clients' = ((clients.is_waited_for ≡ true) × AnswersKnock clients clients')
-    ⊎ ((clients.is_waited_for ≡ false)
-    × ((between : Clients) × Looks (Some 0) clients between × AnswersKnock between clients'))
-
--- The system is asked to report octets of the trunk, unless some are noted, or the last read took all that
--- had come.
-abbrev pub LooksForOctets : Clients → Clients → Type 0
-LooksForOctets clients clients' = ((clients.octets || clients.is_drained ≡ true) × (clients' ≡ clients))
-    ⊎ ((clients.octets || clients.is_drained ≡ false) × LooksAnew (Some 0) clients clients')
-
--- Whether the trunk can be read: octets are noted, or it is a file, which is not waited for. They are
--- forgotten then.
-abbrev pub CanRead : Clients → Clients → Bool → Type 0
-CanRead clients clients' is_ready =
-    ((clients.is_waited_for ≡ false) × (is_ready ≡ true) × (clients' ≡ clients))
-    ⊎ ((clients.is_waited_for ≡ true) × ((between : Clients) × LooksForOctets clients between
-    × (is_ready ≡ between.octets)
-    × (clients' ≡ record between { octets = false; is_drained = false; is_refused = false })))
-
--- The system was asked to wait for events without an end; for a millisecond, and not for octets of the trunk
--- that came before, if the last read gave none of those. It was not if some are noted.
-abbrev pub Waits : Clients → Clients → Type 0
-Waits clients clients' = ((clients.octets || clients.knocks ≡ true) × (clients' ≡ clients))
-    ⊎ ((clients.octets || clients.knocks ≡ false)
-    × (((clients.is_refused ≡ false) × LooksAnew None clients clients')
-    ⊎ ((clients.is_refused ≡ true) × Looks (Some 1000000) clients clients')))
+    ⊎ (clients' ≡ record clients { poller = clients'.poller })))
 
 -- The answer to the last record of a client is given to it, if one is to come.
 abbrev pub GivesAnswer : Clients → Clients → Type 0
 GivesAnswer clients clients' = MatchOption clients.asker (clients' ≡ clients) (λ place.
     (clients' ≡ record clients { answers = clients'.answers; places = clients'.places; asker = None })
-    × HasAnswered SystemWrote (GaveBehind (AnswersByKind SystemGave clients'.answers.reader)
-    clients.answers.log.octets clients'.answers.log.octets) clients.places clients'.places place)
-
--- the system was asked to report what comes of a trunk, and whether it agreed; then of a door; nothing else
-abbrev pub WatchesBoth : ℤ → UnixListener → Bool → Poller → Type 0
-WatchesBoth descriptor door agreed poller = (opened : Poller) × (asked : Poller) × SystemOpened opened
-    × SystemWatches opened asked descriptor 0 agreed × SystemWatches asked poller door 1 true
-
--- There are no clients, and somebody may knock. The system reports what comes of the trunk, unless it refuses
--- to, and of the door.
-pub record AreOpened (descriptor : ℤ) (door : UnixListener) (answers : UnixStream) (clients : Clients)
-    : Type 0 where
-  pub descriptor_is : clients.descriptor ≡ descriptor
-  pub watched : WatchesBoth descriptor door clients.is_waited_for clients.poller
-  pub door_is : clients.door.listener ≡ door
-  pub answers_are : clients.answers.reader ≡ answers
-  pub nobody : (k : ℕ) → k < 8 → at clients.places k ≡ None
-  pub unread : (clients.octets ≡ false) × (clients.is_drained ≡ false) × (clients.is_refused ≡ false)
-  pub knocks : clients.knocks ≡ true
-  pub goes_on : clients.ends ≡ false
-  pub unasked : clients.asker ≡ None
-  pub next_is : clients.next ≡ 0
-  pub came_is : clients.came ≡ 0
+    × HasAnswered SystemWrote (GaveBehind clients.answers.log.octets clients'.answers.log.octets)
+    clients.places clients'.places place)
 
 -- A trunk with clients begins: its octets are those of this reader, neither it nor a client gave any yet, and
 -- it goes on.

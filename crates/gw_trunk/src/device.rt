@@ -1,22 +1,17 @@
 //! How a trunk's descriptor is read and written without waiting (`TrunkInput`, `TrunkOutput`).
 
-ghost use Rattle.std.specs.Prelude.{◌≡◌, ◌<◌, ◌≤◌, ◌++◌, ℕ, List, [], length, take, IfOk, IfErr, IfSome, ⊤};
-ghost use Rattle.std.specs.Prelude.{IfNone, Some, None, Ok, Err, ◌+◌, ◌⊎◌};
-ghost use Rattle.std.specs.Prelude.{Bool, true, false, if◌then◌else◌, Option};
+ghost use Rattle.std.specs.Prelude.{◌≡◌, ◌+◌, ◌<◌, ◌≤◌, ◌++◌, ℕ, List, [], length, Some, IfOk, IfErr, IfSome};
+ghost use Rattle.std.specs.Prelude.{IfNone, Bool, true, if◌then◌else◌, ⊤};
 ghost use Rattle.std.specs.Io.KnownBytes.{IsAtEnd};
-ghost use Rattle.gw_trunk.specs.Device.{IsTaken, WasRead, ReadResult, octets_taken, written_of, IsForLater};
-ghost use Rattle.gw_trunk.specs.Device.{HasFailed, IfTaken};
-ghost use Rattle.gw_records.specs.declared.records.RecordHead.{RecordHead};
+ghost use Rattle.gw_trunk.specs.Device.{IsTaken, WasRead, octets_taken, written_of};
 ghost use Rattle.gw_trunk.specs.Pieces.{AsksRecord};
-ghost use Rattle.gw_trunk.specs.System.{SystemRefusesStream};
-ghost use Rattle.gw_trunk.specs.Waiting.{FindsNone, MayBeReady, Rests, Waits, WaitsFor};
 
-use crate::device_calls::{DeviceReader, DeviceWriter, is_for_later};
+use crate::device_calls::{is_for_later, write_now};
 use crate::logged_reader::LoggedReader;
 use crate::waiting::Waiting;
 use gw_records::{AtStart, Log, RecordHead};
 use mio::Interest;
-use std::io;
+use std::io::{self, Read, Write};
 use std::net::Net;
 use std::time::Duration;
 use thiserror::Error;
@@ -54,20 +49,8 @@ pub trait TrunkInput {
     /// Holds of a device if a read reported that it has ended.
     ghost has_ended: { Self → Type 0 } = { λ _. ⊤ };
 
-    /// Holds of a device if its last read found that no octet has come yet.
-    ghost has_none: { Self → Type 0 } = { λ _. ⊤ };
-
     /// Holds of a device if a read of it has failed.
     ghost has_failed: { Self → Type 0 } = { λ _. ⊤ };
-
-    /// Relates a device before and after a read to the length of the room and to what the read returned.
-    ghost reads: { Self → Self → ℕ → ReadResult → Type 0 } = { λ _ _ _ _. ⊤ };
-
-    /// Relates a device before and after a command was taken to what was returned.
-    ghost commands: { Self → Self → Option RecordHead → Type 0 } = { λ _ _ _. ⊤ };
-
-    /// Relates a device before and after a wait.
-    ghost sleeps: { Self → Self → Type 0 } = { λ _ _. ⊤ };
 
     /// How many times it was waited for.
     ghost waits: { Self → ℕ };
@@ -93,9 +76,7 @@ pub trait TrunkInput {
         ensures turn { IfOk result (λ t. WasRead t → is_turn self.new ≡ true) }
         ensures empty { IfOk result (λ t. t ≡ DeviceRead.NoneNow → is_empty self.new ≡ true) }
         ensures ended { IfOk result (λ t. t ≡ DeviceRead.Ended → has_ended self.new) }
-        ensures none { IfOk result (λ t. t ≡ DeviceRead.NoneNow → has_none self.new) }
         ensures err { IfErr result (λ _. has_failed self.new) }
-        ensures reads { reads self.old self.new (length room.new) result }
         ensures waits { waits self.new ≡ waits self.old };
 
     /// Takes the next record of a client; None if no client has a whole one. Each record of a client comes
@@ -106,9 +87,7 @@ pub trait TrunkInput {
         ensures asked { IfSome result (AsksRecord (asked self.old) (asked self.new)) }
         ensures none { IfNone result (asked self.new ≡ asked self.old) }
         ensures quiet { IfNone result (clients_are_quiet self.new ≡ true) }
-        ensures found { has_none self.old → has_none self.new }
         ensures idle { IfNone result (is_empty self.old ≡ true → is_idle self.new ≡ true) }
-        ensures commands { commands self.old self.new result }
         ensures waits { waits self.new ≡ waits self.old };
 
     /// Waits until octets or a client may have come, when there is nothing.
@@ -116,8 +95,6 @@ pub trait TrunkInput {
         requires idle { is_idle self.old ≡ true }
         ensures came { came self.new ≡ came self.old }
         ensures asked { asked self.new ≡ asked self.old }
-        ensures found { has_none self.old → has_none self.new }
-        ensures sleeps { sleeps self.old self.new }
         ensures waits { waits self.new ≡ waits self.old + 1 };
 }
 
@@ -141,23 +118,8 @@ pub trait TrunkOutput {
     /// How many times it was waited for without a limit.
     ghost waits: { Self → ℕ };
 
-    /// Relates a device before and after a wait without a limit.
-    ghost sleeps: { Self → Self → Type 0 } = { λ _ _. ⊤ };
-
     /// How many waits for a while ended without room.
     ghost slow_waits: { Self → ℕ } = { λ _. 0 };
-
-    /// Whether a wait for a while ended without room since the last octets were taken.
-    ghost is_slow: { Self → Bool } = { λ _. false };
-
-    /// Relates a device before and after a wait of 20 ms in which no room was reported.
-    ghost has_waited: { Self → Self → Type 0 } = { λ _ _. ⊤ };
-
-    /// Relates a device before and after it was asked for room without a wait, and none was reported.
-    ghost has_looked: { Self → Self → Type 0 } = { λ _ _. ⊤ };
-
-    /// Relates a device before and after a wait for a while that ended because it may have room.
-    ghost may_have_room: { Self → Self → Type 0 } = { λ _ _. ⊤ };
 
     /// Takes octets from the front of `octets`, and returns how many; None if it can take none now. It never
     /// waits.
@@ -176,23 +138,19 @@ pub trait TrunkOutput {
         requires full { is_full self.old }
         ensures went { went self.new ≡ went self.old }
         ensures waits { waits self.new ≡ waits self.old + 1 }
-        ensures slow { slow_waits self.new ≡ slow_waits self.old }
-        ensures sleeps { sleeps self.old self.new };
+        ensures slow { slow_waits self.new ≡ slow_waits self.old };
 
     /// Waits until it may take octets, until it has taken none for 20 ms at most, after a write that found no
     /// room. Returns whether it may. It rests for a moment where one that might have taken octets took none.
     fn wait_a_while(&mut self) -> bool
         requires full { is_full self.old }
         ensures went { went self.new ≡ went self.old }
-        ensures slow { slow_waits self.new ≡ slow_waits self.old + (if result then 0 else 1) }
-        ensures waited { result ≡ false → is_slow self.old ≡ false → has_waited self.old self.new }
-        ensures looked { result ≡ false → is_slow self.old ≡ true → has_looked self.old self.new }
-        ensures room { result ≡ true → may_have_room self.old self.new };
+        ensures slow { slow_waits self.new ≡ slow_waits self.old + (if result then 0 else 1) };
 }
 
 /// A reader over a descriptor. What came is what the calls of the reader gave.
 #[derive(Drop)]
-pub struct FromDevice<R: DeviceReader> {
+pub struct FromDevice<R: Read> {
     reader: LoggedReader<R>,
     waiting: Waiting,
     // An octet for each wait.
@@ -202,7 +160,7 @@ pub struct FromDevice<R: DeviceReader> {
 /// A writer over a descriptor. What went is what the calls of the writer took: if it is known what it holds,
 /// that is what it held at the start and what went.
 #[derive(Drop)]
-pub struct ToDevice<W: DeviceWriter> {
+pub struct ToDevice<W: Write> {
     writer: W,
     waiting: Waiting,
     // An octet for each wait without a limit.
@@ -237,7 +195,7 @@ impl NoClients {
     }
 }
 
-impl<R: DeviceReader + Drop> FromDevice<R> {
+impl<R: Read + Drop> FromDevice<R> {
     /// A trunk's input from a reader with this descriptor, without clients. The error is the system's.
     pub fn open(
         rt: &(impl Net + AllocGlobal),
@@ -247,8 +205,6 @@ impl<R: DeviceReader + Drop> FromDevice<R> {
         ensures reader { IfOk result (λ d. d.reader.reader ≡ reader) }
         ensures start { IfOk result (λ d. d.reader.start.value ≡ reader) }
         ensures log { IfOk result (λ d. d.reader.log.octets ≡ []) }
-        ensures waiting { IfOk result (λ d. WaitsFor descriptor Interest.READABLE d.waiting) }
-        ensures err { IfErr result SystemRefusesStream }
     {
         Ok(FromDevice {
             waiting: Waiting::open(rt, descriptor, Interest::READABLE)?,
@@ -258,7 +214,7 @@ impl<R: DeviceReader + Drop> FromDevice<R> {
     }
 }
 
-impl<W: DeviceWriter + Drop> ToDevice<W> {
+impl<W: Write + Drop> ToDevice<W> {
     /// A trunk's output to a writer with this descriptor. The error is the system's.
     pub fn open(
         rt: &(impl Net + AllocGlobal),
@@ -268,8 +224,6 @@ impl<W: DeviceWriter + Drop> ToDevice<W> {
         ensures writer { IfOk result (λ d. d.writer ≡ writer) }
         ensures start { IfOk result (λ d. d.start.value ≡ writer) }
         ensures log { IfOk result (λ d. d.log.octets ≡ []) }
-        ensures waiting { IfOk result (λ d. WaitsFor descriptor Interest.WRITABLE d.waiting) }
-        ensures err { IfErr result SystemRefusesStream }
     {
         let waiting = Waiting::open(rt, descriptor, Interest::WRITABLE)?;
         let start = AtStart::of(&writer);
@@ -285,21 +239,12 @@ impl<W: DeviceWriter + Drop> ToDevice<W> {
     }
 }
 
-impl<R: DeviceReader> TrunkInput for FromDevice<R> {
+impl<R: Read> TrunkInput for FromDevice<R> {
     ghost came = { λ d. d.reader.log.octets };
 
     ghost asked = { λ _. [] };
 
     ghost has_ended = { λ d. IsAtEnd (R.remaining d.reader.reader) };
-
-    ghost has_none = { λ d. IsForLater (λ kind. R.has_read d.reader.reader (Err kind)) };
-
-    ghost has_failed = { λ d. HasFailed (λ kind. R.has_read d.reader.reader (Err kind)) };
-
-    ghost reads = { λ _ d room read. R.was_offered d.reader.reader room
-        × IfTaken read (d.waiting.is_refused ≡ false) };
-
-    ghost sleeps = { λ d d'. Waits d.waiting d'.waiting };
 
     ghost waits = { λ d. length d.waits.octets };
 
@@ -325,35 +270,15 @@ impl<R: DeviceReader> TrunkInput for FromDevice<R> {
     }
 }
 
-impl<W: DeviceWriter> TrunkOutput for ToDevice<W> {
+impl<W: Write> TrunkOutput for ToDevice<W> {
     ghost went = { λ d. d.log.octets };
-
-    ghost is_full = { λ d. IsForLater (λ kind. W.has_written d.writer (Err kind)) };
-
-    ghost has_failed = { λ d. HasFailed (λ kind. W.has_written d.writer (Err kind)) };
-
-    ghost has_taken = { λ d n. W.has_written d.writer (Ok n) × (d.is_slow ≡ false)
-        × (d.waiting.is_refused ≡ false) };
-
-    ghost was_given = { λ d. W.was_given d.writer };
 
     ghost waits = { λ d. length d.waits.octets };
 
-    ghost sleeps = { λ d d'. Waits d.waiting d'.waiting };
-
     ghost slow_waits = { λ d. length d.slow_waits.octets };
 
-    ghost is_slow = { λ d. d.is_slow };
-
-    ghost has_waited = { λ d d'. FindsNone 20_000_000 d.waiting d'.waiting };
-
-    ghost has_looked = { λ d d'. FindsNone 0 d.waiting d'.waiting };
-
-    ghost may_have_room = { λ d d'. Rests d.waiting d'.waiting ⊎ ((d.waiting.is_refused ≡ false)
-        × MayBeReady (if d.is_slow then 0 else 20_000_000) d.waiting d'.waiting) };
-
     fn write(&mut self, octets: &[u8]) -> Result<Option<usize>, DeviceFault> {
-        match self.writer.write_now(octets) {
+        match write_now(&mut self.writer, octets) {
             Ok(n) => {
                 self.log.append(octets, n);
                 self.is_slow = false;

@@ -20,8 +20,7 @@ pub use client_stream::ClientStream;
 pub use device::{
     DeviceFault, DeviceRead, FromDevice, NoClients, ToDevice, TrunkInput, TrunkOutput,
 };
-pub use device_calls::{DeviceReader, DeviceWriter};
-pub use door::{Door, Doors, LocalDoors, open_door};
+pub use door::{Door, open_door};
 pub use held::drop_first;
 pub use multiframe_dropper::{MultiframeDropper, give_held};
 pub use readiness::Poller;

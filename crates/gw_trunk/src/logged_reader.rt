@@ -5,14 +5,14 @@ ghost use Rattle.std.specs.Io.KnownBytes.{IsAtEnd};
 ghost use Rattle.gw_trunk.specs.Device.{octets_read};
 ghost use Rattle.gw_trunk.specs.KnownOctets.{Gave, StaysKnown};
 
-use crate::device_calls::DeviceReader;
+use crate::device_calls::read_now;
 use gw_records::{AtStart, Log};
-use std::io::ErrorKind;
+use std::io::{ErrorKind, Read};
 
 /// A reader, and what its calls gave: if it is known what the reader was to give, that is what it gave and
 /// what is still to come.
 #[derive(Drop)]
-pub struct LoggedReader<R: DeviceReader> {
+pub struct LoggedReader<R: Read> {
     reader: R,
     start: AtStart<R>,
     log: Log,
@@ -20,7 +20,7 @@ pub struct LoggedReader<R: DeviceReader> {
     ghost known: { StaysKnown (R.remaining start.value) (R.remaining reader) },
 }
 
-impl<R: DeviceReader> LoggedReader<R> {
+impl<R: Read> LoggedReader<R> {
     /// A reader that was not read yet.
     pub fn new(reader: R) -> LoggedReader<R>
         ensures reader { result.reader ≡ reader }
@@ -41,10 +41,8 @@ impl<R: DeviceReader> LoggedReader<R> {
         ensures start { self.new.start.value ≡ self.old.start.value }
         ensures log { self.new.log.octets ≡ self.old.log.octets ++ octets_read result room.new }
         ensures end { IfOk result (λ n. n ≡ 0 → 0 < length room.new → IsAtEnd (R.remaining self.new.reader)) }
-        ensures read { R.has_read self.new.reader result }
-        ensures offered { R.was_offered self.new.reader (length room.new) }
     {
-        match self.reader.read_now(room) {
+        match read_now(&mut self.reader, room) {
             Ok(n) => {
                 self.log.append(room, n);
                 Ok(n)

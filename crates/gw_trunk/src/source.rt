@@ -1,6 +1,6 @@
 //! Whether octets of the trunk or a client's command are the next record of a session (`TrunkRecords`).
 
-ghost use Rattle.std.specs.Prelude.{◌≡◌, ◌≢◌, ◌<◌, ◌≤◌, ◌^◌, ◌-◌, ◌+◌, ◌++◌, [], length, IfOk, IfErr};
+ghost use Rattle.std.specs.Prelude.{◌≡◌, ◌<◌, ◌≤◌, ◌^◌, ◌-◌, ◌+◌, ◌++◌, [], length, IfOk, IfErr};
 ghost use Rattle.std.specs.Prelude.{IfSome, IfNone};
 ghost use Rattle.std.specs.Prelude.{OnErr, OnOk, Ok, Some, None, true, false, is_ok, ◌⊎◌};
 ghost use Rattle.gw_records.specs.Records.{IsGood, end_of, named, spelled};
@@ -96,11 +96,7 @@ fn next_record<I: TrunkInput>(
         (I.asked incoming.old) (I.asked incoming.new) result room.new }
     ensures turn { turn.new ≡ true → I.is_turn incoming.new ≡ true }
     ensures ended { IfOk result (λ got. IfNone got (I.has_ended incoming.new)) }
-    ensures offers { IfOk result (λ got. IfSome got (λ first.
-        I.came incoming.new ≢ I.came incoming.old → (before : I)
-        × I.reads before incoming.new (length room.new) (Ok (DeviceRead.Octets (first.len - 4))))) }
-    ensures fails { OnErr result (LacksRecord (I.has_failed incoming.new)
-        (I.has_none incoming.new × (2 ^ 63 ≤ I.waits incoming.new))) }
+    ensures fails { OnErr result (LacksRecord (I.has_failed incoming.new) (2 ^ 63 ≤ I.waits incoming.new)) }
 {
     if let Some(first) = command_in_turn(incoming, turn) {
         return Ok(Some(first));
@@ -152,11 +148,7 @@ impl<I: TrunkInput> TrunkRecordSource<I> {
         ensures turns { CountsTurn self.old.reads self.new.reads result }
         ensures ended { IfOk result (λ got. IfNone got (I.has_ended self.new.incoming)) }
         ensures fails { OnErr result (LacksRecord (I.has_failed self.new.incoming)
-            (I.has_none self.new.incoming × (2 ^ 63 ≤ I.waits self.new.incoming))) }
-        ensures offers { IfOk result (λ got. IfSome got (λ first.
-            I.came self.new.incoming ≢ I.came self.old.incoming → (before : I)
-            × I.reads before self.new.incoming most_octets
-            (Ok (DeviceRead.Octets (first.len - 4))))) }
+            (2 ^ 63 ≤ I.waits self.new.incoming)) }
     {
         match next_record(&mut self.incoming, &mut self.turn, room) {
             Ok(got) => {
@@ -274,8 +266,7 @@ impl<I: TrunkInput> Records for TrunkRecords<I> {
         ensures ended { IfOk result (λ came. came ≡ false → self.old.first ≡ None
             → I.has_ended source.new.incoming) }
         ensures fails { OnErr result ((self.old.reads_left ≡ 0)
-            ⊎ LacksRecord (I.has_failed source.new.incoming)
-            (I.has_none source.new.incoming × (2 ^ 63 ≤ I.waits source.new.incoming))) }
+            ⊎ LacksRecord (I.has_failed source.new.incoming) (2 ^ 63 ≤ I.waits source.new.incoming)) }
     {
         if self.first.is_some() {
             return Ok(false);

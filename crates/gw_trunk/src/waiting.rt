@@ -1,10 +1,5 @@
 //! How a descriptor is waited for, with or without a time limit (`Waiting`).
 
-ghost use Rattle.std.specs.Prelude.{◌≡◌, true, false, IfOk, IfErr};
-ghost use Rattle.std.specs.Duration.{as_nanos};
-ghost use Rattle.gw_trunk.specs.System.{SystemRefusesStream};
-ghost use Rattle.gw_trunk.specs.Waiting.{FindsNone, MayBeReady, Rests, Waits, WaitsFor};
-
 use crate::readiness::Poller;
 use mio::Interest;
 use std::io;
@@ -31,10 +26,7 @@ impl Waiting {
         rt: &(impl Net + AllocGlobal),
         descriptor: i32,
         interest: Interest,
-    ) -> io::Result<Waiting>
-        ensures ok { IfOk result (WaitsFor descriptor interest) }
-        ensures err { IfErr result SystemRefusesStream }
-    {
+    ) -> io::Result<Waiting> {
         let mut poller = Poller::open(rt, 1)?;
         // (A regular file can't be waited for, and never has to be.)
         let _ = poller.watch_descriptor(descriptor, 0, interest);
@@ -47,17 +39,12 @@ impl Waiting {
     }
 
     /// Notes that something came of a wait.
-    pub fn note_moved(&mut self)
-        ensures { self.new ≡ record self.old { is_refused = false } }
-    {
+    pub fn note_moved(&mut self) {
         self.is_refused = false;
     }
 
     /// Waits for a moment if the last wait has ended and nothing came of it; returns whether it did.
-    pub fn rest(&mut self) -> bool
-        ensures yes { result ≡ true → Rests self.old self.new }
-        ensures no { result ≡ false → (self.old.is_refused ≡ false) × (self.new ≡ self.old) }
-    {
+    pub fn rest(&mut self) -> bool {
         if !self.is_refused {
             return false;
         }
@@ -68,9 +55,7 @@ impl Waiting {
 
     /// Waits until the descriptor is ready, or a signal comes; or it rests. (It is registered again each
     /// time, so that the system reports what came before.)
-    pub fn wait(&mut self)
-        ensures { Waits self.old self.new }
-    {
+    pub fn wait(&mut self) {
         if self.rest() {
             return;
         }
@@ -82,10 +67,7 @@ impl Waiting {
 
     /// Waits until the descriptor is ready, for this time at most, or a signal comes. Returns whether it may
     /// be ready: the system reported it, or refused to wait.
-    pub fn wait_for(&mut self, limit: Duration) -> bool
-        ensures none { result ≡ false → FindsNone (as_nanos limit) self.old self.new }
-        ensures some { result ≡ true → MayBeReady (as_nanos limit) self.old self.new }
-    {
+    pub fn wait_for(&mut self, limit: Duration) -> bool {
         self.is_refused = true;
         if !self.poller.renew(self.descriptor, self.interest) {
             return true;

@@ -1,27 +1,22 @@
 //! A trunk with clients: when it is read, when a client is asked, and what ends it (`WithClients`).
 
-ghost use Rattle.std.specs.Prelude.{◌≡◌, ◌⊎◌, ◌||◌, ◌&&◌, ℕ, List, [], length, true, false, IfOk, IfErr};
-ghost use Rattle.std.specs.Prelude.{Some, Err, is_ok};
+ghost use Rattle.std.specs.Prelude.{◌≡◌, ◌||◌, ◌&&◌, List, ℕ, [], length, true, false, Some, IfOk};
 ghost use Rattle.std.specs.Io.KnownBytes.{IsAtEnd};
 ghost use Rattle.std.specs.List.{list_all};
-ghost use Rattle.gw_trunk.specs.Clients.{AreOpened, BeginsTrunk, is_quiet};
-ghost use Rattle.gw_trunk.specs.Device.{HasFailed};
-ghost use Rattle.gw_trunk.specs.Door.{HasMadeSuch, TriesDoor};
-ghost use Rattle.gw_trunk.specs.System.{SystemListens, SystemPairs, SystemRefusesDoor, SystemRefusesStream};
-ghost use Rattle.gw_trunk.specs.System.{SystemWatches};
-ghost use Rattle.mio.specs.Net.{unix_stream_fd};
+ghost use Rattle.gw_trunk.specs.Clients.{BeginsTrunk, is_quiet};
 
 use crate::client::ClientPoll;
 use crate::clients::Clients;
 use crate::device::{DeviceFault, DeviceRead, ToDevice, TrunkInput};
-use crate::device_calls::{DeviceReader, is_for_later};
-use crate::door::{Doors, open_door};
+use crate::device_calls::is_for_later;
+use crate::door::open_door;
 use crate::logged_reader::LoggedReader;
 use gw_records::{Log, RecordHead};
 use mio::net::{UnixListener, UnixStream};
-use std::io;
+use std::io::{self, Read};
 use std::net::Net;
 use std::os::fd::AsRawFd;
+use std::rt::Files;
 
 /// A reader of std over a descriptor, and the clients of a Unix socket. The reader is read only if octets
 /// have come, so one that waits for them keeps no client from being asked.
@@ -30,7 +25,7 @@ use std::os::fd::AsRawFd;
 /// the other end of `answers`. A client that goes, sends something else, or does not take an answer at once
 /// loses its connection, and nothing else happens. Once the end is asked for nothing comes any more.
 #[derive(Drop)]
-pub struct WithClients<R: DeviceReader> {
+pub struct WithClients<R: Read> {
     reader: LoggedReader<R>,
     clients: Clients,
     // (The next two are read by contracts alone.) Whether the trunk was read since the last record of a
@@ -48,9 +43,7 @@ pub struct WithClients<R: DeviceReader> {
         → R.remaining reader.reader ≡ Some rest → rest ≡ [] },
 }
 
-impl<R: DeviceReader + Drop> WithClients<R> {
-    ghost use Rattle.gw_trunk.specs.Turns.{AsksPoller};
-
+impl<R: Read + Drop> WithClients<R> {
     /// What comes from the reader, whose descriptor this is, and from those who connect to `door`. The
     /// answers to them come from `answers`, which never waits. The error is the system's.
     pub fn open(
@@ -61,8 +54,6 @@ impl<R: DeviceReader + Drop> WithClients<R> {
         answers: UnixStream,
     ) -> io::Result<WithClients<R>>
         ensures begins { IfOk result (λ d. BeginsTrunk reader d.reader d.asked.octets d.ended) }
-        ensures clients { IfOk result (λ d. AreOpened descriptor door answers d.clients) }
-        ensures err { IfErr result SystemRefusesStream }
     {
         let clients = Clients::open(rt, descriptor, door, answers)?;
         Ok(WithClients {
@@ -80,46 +71,32 @@ impl<R: DeviceReader + Drop> WithClients<R> {
     /// Has a descriptor ask for the end, when anything comes of it or it is closed at its other end. The
     /// error is the system's.
     pub fn end_by(&mut self, descriptor: i32) -> io::Result<()>
-        ensures watched { SystemWatches self.old.clients.poller self.new.clients.poller descriptor 10
-            (is_ok result) }
-        ensures same { AsksPoller self.old self.new }
-        ensures err { IfErr result SystemRefusesStream }
+        ensures reader { self.new.reader ≡ self.old.reader }
+        ensures asked { self.new.asked ≡ self.old.asked }
+        ensures ended { self.new.ended ≡ self.old.ended }
     {
         self.clients.watch_end(descriptor)
     }
 }
 
 /// Two connections, each the other's end, whose calls never wait. The error is the system's.
-#[tactic(auto, unfolding(crate::specs::System::SystemPairs, crate::specs::System::SystemRefusesStream))]
-pub fn open_pair(rt: &impl Net) -> io::Result<(UnixStream, UnixStream)>
-    ensures ok { IfOk result (λ both. SystemPairs both.0 both.1) }
-    ensures err { IfErr result SystemRefusesStream }
-{
+pub fn open_pair(rt: &impl Net) -> io::Result<(UnixStream, UnixStream)> {
     UnixStream::pair(rt)
 }
 
 /// What comes from the reader, whose descriptor this is, and from the clients of the Unix socket at a path;
 /// and what takes the answers to them. An old socket there at which nobody listens is replaced. The error is
 /// the system's.
-#[tactic(auto, using(crate::proofs::Opening::tried))]
-pub fn open_clients<R: DeviceReader + Drop, D: Doors>(
-    rt: &(impl Net + AllocGlobal),
-    doors: &mut D,
+pub fn open_clients<R: Read + Drop>(
+    rt: &(impl Files + Net + AllocGlobal),
     reader: R,
     descriptor: i32,
     path: &str,
 ) -> io::Result<(WithClients<R>, ToDevice<UnixStream>)>
     ensures begins { IfOk result (λ both. BeginsTrunk reader both.0.reader both.0.asked.octets both.0.ended) }
     ensures answers { IfOk result (λ both. both.1.log.octets ≡ []) }
-    ensures door { IfOk result (λ both. SystemListens path.now both.0.clients.door.listener) }
-    ensures joined { IfOk result (λ both. SystemPairs both.0.clients.answers.reader both.1.writer) }
-    ensures waiting { IfOk result (λ both. both.1.waiting.descriptor ≡ unix_stream_fd both.1.writer) }
-    ensures clients { IfOk result (λ both. AreOpened descriptor both.0.clients.door.listener
-        both.0.clients.answers.reader both.0.clients) }
-    ensures calls { HasMadeSuch D.has_made doors.old doors.new (TriesDoor path.now) }
-    ensures err { IfErr result (λ e. SystemRefusesDoor path.now e ⊎ SystemRefusesStream e) }
 {
-    let door = open_door(doors, path)?;
+    let door = open_door(rt, path)?;
     let (near, far) = open_pair(rt)?;
     let incoming = WithClients::open(rt, reader, descriptor, door, near)?;
     let end = far.as_raw_fd();
@@ -127,23 +104,13 @@ pub fn open_clients<R: DeviceReader + Drop, D: Doors>(
     Ok((incoming, answers))
 }
 
-impl<R: DeviceReader> TrunkInput for WithClients<R> {
-    ghost use Rattle.gw_trunk.specs.Turns.{CommandsInTurn, ReadsInTurn, Sleeps};
-
+impl<R: Read> TrunkInput for WithClients<R> {
     ghost came = { λ d. d.reader.log.octets };
 
     ghost asked = { λ d. d.asked.octets };
 
     ghost has_ended = { λ d. (d.ended ≡ true)
         × (d.end_asked ≡ false → IsAtEnd (R.remaining d.reader.reader)) };
-
-    ghost has_failed = { λ d. HasFailed (λ kind. R.has_read d.reader.reader (Err kind)) };
-
-    ghost reads = { ReadsInTurn (λ r room read. R.has_read r read × R.was_offered r room) };
-
-    ghost commands = { CommandsInTurn };
-
-    ghost sleeps = { Sleeps };
 
     ghost waits = { λ d. length d.waits.octets };
 

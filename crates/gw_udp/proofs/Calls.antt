@@ -1,22 +1,14 @@
 -- The sockets of circuits from call to call.
-use Rattle.std.proofs.Common.{◌≡◌, ◌⊎◌, ℕ, ◌-◌, ◌≤◌, ◌++◌, ◌∷◌, [], List, length, Bool, true, false}
-use Rattle.std.proofs.Common.{Option, Some, None, Result, Ok, Err, refl, inl, inr, arith}
-use Rattle.std.proofs.lemmas.Bool.{ltb-true, ltb-false}
+use Rattle.std.proofs.Common.{◌≡◌, ◌⊎◌, ℕ, ◌-◌, ◌≤◌, ◌++◌, ◌∷◌, [], List, Option, None, Some, Result, Ok, Err}
+use Rattle.std.proofs.Common.{refl, inl, inr, arith}
 use Rattle.std.specs.declared.net.socket_addr.SocketAddr.{SocketAddr}
 use Rattle.std.proofs.lemmas.Bool.Decides.{eqb_tells}
-use Rattle.std.proofs.Math.ListN.{get_or-eq_default}
-use Rattle.std.specs.Prelude.{nat_lt, slice_index_or}
-use Rattle.gw_config.specs.declared.config.Port.{Port}
+use Rattle.std.specs.Prelude.{slice_index_or}
 use Rattle.gw_records.specs.declared.ports.PortFault.{PortFault}
 use Rattle.gw_records.specs.Ports.{PortCall, receive_call, send_call}
-use Rattle.gw_udp.specs.Names.{LookUp}
-use Rattle.gw_udp.specs.Inheriting.{IsAt, IsHere}
-use Rattle.gw_udp.specs.Socket.{Bound, Inherited, Lacking, Received, Sent}
-use Rattle.gw_udp.specs.Udp.{IsEndpoint, HasEndpoints, KeepsOthers, EndpointReceives, EndpointSends, TakesFrom}
-use Rattle.gw_udp.specs.Calls.{circuit_of, HasCalledOne, HasCalled, HasMadeAll, calls_for, IsBoundTo, AreBound}
-use Rattle.gw_udp.specs.Calls.{EachHasItsSocket}
-use Rattle.gw_udp.specs.declared.inherited.Descriptors.{Descriptors}
-use Rattle.gw_udp.specs.declared.source_filter.SourceFilter.{SourceFilter}
+use Rattle.gw_udp.specs.Socket.{Received, Sent}
+use Rattle.gw_udp.specs.Udp.{KeepsOthers, EndpointReceives, EndpointSends}
+use Rattle.gw_udp.specs.Calls.{circuit_of, HasCalledOne, HasCalled, HasMadeAll, calls_for, EachHasItsSocket}
 use Rattle.gw_udp.specs.declared.udp.Endpoint.{Endpoint}
 
 -- calls were made at the sockets, and then one more
@@ -63,45 +55,6 @@ send_called receives sends circuit old new datagram (Ok tt) some own others =
 send_called receives sends circuit old new datagram (Err fault) some own others =
     record { some = some; own = λ d. (fault, own d); others = others }
 
--- the socket of a circuit's own ports is bound to its address
-bound_to : {S : Type 0} (is_bound : Bound S) (is_open : S → Type 0) (looks_up : LookUp) (host : List ℕ)
-    (senders : SourceFilter) (port : Option Port) (e : Option (Endpoint S))
-    → IsEndpoint (TakesFrom is_bound is_open senders) looks_up host senders port e → IsBoundTo is_bound e
-bound_to is_bound is_open looks_up host senders port None is = tt
-bound_to is_bound is_open looks_up host senders None (Some e) is = absurd is
-bound_to is_bound is_open looks_up host senders (Some port) (Some e) is = is.bound.0
-
--- sockets that were opened for ports are bound to their addresses
-pub are_bound : {S : Type 0} (is_bound : Bound S) (is_open : S → Type 0) (looks_up : LookUp) (host : List ℕ)
-    (senders : SourceFilter) (ports : List (Option Port)) (endpoints : List (Option (Endpoint S))) (n : ℕ)
-    → length endpoints ≡ n
-    → HasEndpoints (TakesFrom is_bound is_open senders) looks_up host senders ports endpoints n
-    → AreBound is_bound endpoints
-are_bound is_bound is_open looks_up host senders ports endpoints n len has = λ i. go i (nat_lt i n) refl
-  where
-    go : (i : ℕ) (b : Bool) → nat_lt i n ≡ b → IsBoundTo is_bound (slice_index_or endpoints i None)
-    go i true below = bound_to is_bound is_open looks_up host senders (slice_index_or ports i None) _
-        (has i None None (ltb-true i n below))
-    go i false past =
-        let none : slice_index_or endpoints i None ≡ None =
-        get_or-eq_default endpoints None (omega (arith, len, ltb-false i n past)) in
-        rw none tt
-
--- a socket that was taken at a descriptor or bound anew is at its address
-at_is_here : {S : Type 0} (is_bound : Bound S) (inherits : Inherited S) (lacks : Lacking) (among : Descriptors)
-    (e : Option (Endpoint S)) → IsBoundTo (IsAt is_bound inherits lacks among) e
-    → IsBoundTo (IsHere is_bound inherits) e
-at_is_here is_bound inherits lacks among None is = tt
-at_is_here is_bound inherits lacks among (Some e) (inl first) = inr (first.descriptor, first.taken)
-at_is_here is_bound inherits lacks among (Some e) (inr new) = inl new.1
-
--- .. so all are
-pub are_here : {S : Type 0} (is_bound : Bound S) (inherits : Inherited S) (lacks : Lacking) (among : Descriptors)
-    (endpoints : List (Option (Endpoint S))) → AreBound (IsAt is_bound inherits lacks among) endpoints
-    → AreBound (IsHere is_bound inherits) endpoints
-are_here is_bound inherits lacks among endpoints are =
-    λ i. at_is_here is_bound inherits lacks among (slice_index_or endpoints i None) (are i)
-
 -- what the socket of a circuit is came of the calls for this circuit
 made_all : {S : Type 0} (receives : Received S) (sends : Sent S) (calls : List PortCall)
     (old new : List (Option (Endpoint S))) → HasCalled receives sends calls old new
@@ -120,11 +73,8 @@ made_all receives sends (call ∷ calls) old new has circuit some = elim (eqb_te
 ]
 
 -- each circuit has its own socket, by what is true of all ports over sockets
-pub each_has : {S : Type 0} (is_bound : Bound S) (receives : Received S) (sends : Sent S) (calls : List PortCall)
-    (opened endpoints : List (Option (Endpoint S))) → AreBound is_bound opened
-    → HasCalled receives sends calls opened endpoints
-    → EachHasItsSocket is_bound receives sends calls opened endpoints
-each_has is_bound receives sends calls opened endpoints bound called = λ circuit some. record {
-  bound = bound (circuit - 1);
-  called = made_all receives sends calls opened endpoints called circuit some;
-}
+pub each_has : {S : Type 0} (receives : Received S) (sends : Sent S) (calls : List PortCall)
+    (opened endpoints : List (Option (Endpoint S))) → HasCalled receives sends calls opened endpoints
+    → EachHasItsSocket receives sends calls opened endpoints
+each_has receives sends calls opened endpoints called =
+    λ circuit some. made_all receives sends calls opened endpoints called circuit some

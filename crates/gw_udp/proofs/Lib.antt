@@ -3,4 +3,3 @@ pub mod Opening
 pub mod Receiving
 pub mod Noting
 pub mod Looks
-pub mod Inheriting

@@ -1,10 +1,10 @@
 -- The effect of port calls at the sockets of circuits.
 use Rattle.std.specs.Prelude.{◌≡◌, ◌⊎◌, ◌==◌, ◌-◌, ◌≤◌, ℕ, List, [], ◌∷◌, take, filter, slice_index_or}
-use Rattle.std.specs.Prelude.{Option, Some, None, Ok, Err, ⊤}
+use Rattle.std.specs.Prelude.{Option, Some, None, Ok, Err}
 use Rattle.std.specs.declared.net.socket_addr.SocketAddr.{SocketAddr}
 use Rattle.gw_records.specs.declared.ports.PortFault.{PortFault}
 use Rattle.gw_records.specs.Ports.{PortCall}
-use Rattle.gw_udp.specs.Socket.{Bound, Received, Sent}
+use Rattle.gw_udp.specs.Socket.{Received, Sent}
 use Rattle.gw_udp.specs.Udp.{KeepsOthers, ReceivesAt, SendsAt}
 use Rattle.gw_udp.specs.declared.udp.Endpoint.{Endpoint}
 
@@ -66,31 +66,21 @@ HasCalled {S} receives sends (call ∷ calls) old new = (between : List (Option 
 abbrev pub calls_for : ℕ → List PortCall → List PortCall
 calls_for circuit calls = filter (λ call. circuit_of call == circuit) calls
 
--- a socket, if there is one, is bound to its address
-abbrev pub IsBoundTo : {S : Type 0} → Bound S → Option (Endpoint S) → Type 0
-IsBoundTo is_bound None = ⊤
-IsBoundTo is_bound (Some e) = is_bound e.socket e.here.value
-
--- each socket is bound to its address
-abbrev pub AreBound : {S : Type 0} → Bound S → List (Option (Endpoint S)) → Type 0
-AreBound {S} is_bound endpoints = (i : ℕ) → IsBoundTo is_bound (slice_index_or endpoints i None)
-
 -- the sockets are as opened, and there was no call
 abbrev pub IsFresh : {S : Type 0} → List (Option (Endpoint S)) → List (Option (Endpoint S)) → List PortCall
     → Type 0
 IsFresh endpoints opened calls = (endpoints ≡ opened) × (calls ≡ [])
 
--- The socket of a circuit was bound to its address when it was opened, and its present state follows from the
--- calls for this circuit alone: what the circuit received came from its own socket, and what it sent went out
--- there.
-pub record HasOwnSocket {S : Type 0} (is_bound : Bound S) (receives : Received S) (sends : Sent S)
-    (circuit : ℕ) (calls : List PortCall) (opened endpoints : List (Option (Endpoint S))) : Type 0 where
-  pub bound : IsBoundTo is_bound (slice_index_or opened (circuit - 1) None)
-  pub called : HasMadeAll receives sends (calls_for circuit calls) (slice_index_or opened (circuit - 1) None)
-      (slice_index_or endpoints (circuit - 1) None)
+-- The present state of a circuit's socket follows from the calls for this circuit alone: what the circuit
+-- received came from its own socket, and what it sent went out there.
+abbrev pub HasOwnSocket : {S : Type 0} → Received S → Sent S → ℕ → List PortCall → List (Option (Endpoint S))
+    → List (Option (Endpoint S)) → Type 0
+HasOwnSocket receives sends circuit calls opened endpoints = HasMadeAll receives sends
+    (calls_for circuit calls) (slice_index_or opened (circuit - 1) None)
+    (slice_index_or endpoints (circuit - 1) None)
 
 -- .. and each circuit has its own
-abbrev pub EachHasItsSocket : {S : Type 0} → Bound S → Received S → Sent S → List PortCall
-    → List (Option (Endpoint S)) → List (Option (Endpoint S)) → Type 0
-EachHasItsSocket is_bound receives sends calls opened endpoints = (circuit : ℕ) → 1 ≤ circuit
-    → HasOwnSocket is_bound receives sends circuit calls opened endpoints
+abbrev pub EachHasItsSocket : {S : Type 0} → Received S → Sent S → List PortCall → List (Option (Endpoint S))
+    → List (Option (Endpoint S)) → Type 0
+EachHasItsSocket receives sends calls opened endpoints = (circuit : ℕ) → 1 ≤ circuit
+    → HasOwnSocket receives sends circuit calls opened endpoints

@@ -1,15 +1,11 @@
 pub mod SourceFilter
 pub mod Socket
-pub mod Inheriting
-pub mod Names
 pub mod Udp
 pub mod Calls
 pub mod Telling
 pub mod Opening
 pub mod Outcome
-pub mod System
 pub mod Resting
 pub mod Ready
 pub mod Given
 pub mod First
-pub mod Sockets

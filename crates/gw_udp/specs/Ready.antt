@@ -1,17 +1,10 @@
 -- Which sockets the system says that datagrams have come to (module `readiness`).
-use Rattle.std.specs.Prelude.{◌≡◌, ◌⊎◌, ◌==◌, ◌||◌, ◌+◌, ◌-◌, ◌<◌, ⊤, ℕ, Bool, false, List, Option}
-use Rattle.std.specs.Prelude.{MatchOption, slice_index_or}
+use Rattle.std.specs.Prelude.{◌≡◌, ◌⊎◌, ◌==◌, ◌||◌, ◌+◌, ◌-◌, ◌<◌, ℕ, Bool, false, List, slice_index_or}
 use Rattle.std.specs.Prelude.{if◌then◌else◌}
 use Rattle.std.specs.List.{list_any}
 use Rattle.mio.specs.Event.{event_token}
 use Rattle.mio.specs.declared.event.event.Event.{Event}
-use Rattle.gw_udp.specs.declared.readiness.Poller.{Poller}
 use Rattle.gw_udp.specs.declared.readiness.Readiness.{Readiness}
-
--- The system was asked what came, and reported these events. Std says nothing of that, so this holds of all;
--- but it is unfolded only where the system is asked, so for all others it holds of events reported.
-unfoldable pub SystemHasReported : {P : Type 0} → P → List Event → Type 0
-SystemHasReported poll events = ⊤
 
 -- events have one of this token
 abbrev pub comes : ℕ → List Event → Bool
@@ -25,15 +18,14 @@ has_come came place = slice_index_or came place false
 abbrev pub AreNoted : List Event → List Bool → List Bool → Type 0
 AreNoted events came came' = (k : ℕ) → k < 30 → has_come came' k ≡ (has_come came k || comes k events)
 
--- The system was asked what came to sockets, and this is noted; nothing is if there is no poller.
-abbrev pub AsksSystem : Option Poller → List Bool → List Bool → Type 0
-AsksSystem poller came came' = MatchOption poller (came' ≡ came)
-    (λ p. (events : List Event) × SystemHasReported p.poll events × AreNoted events came came')
+-- The system was asked what came to sockets, and this is noted.
+abbrev pub AsksSystem : List Bool → List Bool → Type 0
+AsksSystem came came' = (events : List Event) × AreNoted events came came'
 
 -- A receive was counted: in the 250th since the system was last asked, it was asked what came.
 abbrev pub IsCounted : Readiness → Readiness → Type 0
 IsCounted r r' = ((r.receives + 1 < 250) × (r'.receives ≡ r.receives + 1) × (r'.came ≡ r.came))
-    ⊎ ((r'.receives ≡ 0) × AsksSystem r'.poller r.came r'.came)
+    ⊎ ((r'.receives ≡ 0) × AsksSystem r.came r'.came)
 
 -- that something came to the socket of a circuit is noted no more, and what came to others is still
 abbrev pub Clears : List Bool → List Bool → ℕ → Type 0

@@ -2,7 +2,7 @@
 use Rattle.std.specs.Prelude.{◌≡◌, ◌⊎◌, ◌+◌, ℕ, List, Option, Some, None, Result, Ok, Err}
 use Rattle.std.specs.declared.net.socket_addr.SocketAddr.{SocketAddr}
 use Rattle.gw_records.specs.declared.ports.PortFault.{PortFault}
-use Rattle.gw_udp.specs.Socket.{Bound, Received, Sent}
+use Rattle.gw_udp.specs.Socket.{Received, Sent}
 use Rattle.gw_udp.specs.declared.resting.Resting.{Resting}
 
 -- How many receives rest after one with this answer: `most` after one that found none, and no receive after a
@@ -32,10 +32,6 @@ Rests old new r = HasRested old new × (r ≡ Ok None)
 abbrev pub RestingReceives : {S : Type 0} → Received S → Received (Resting S)
 RestingReceives receives old new r room = (Asks receives old new r room ⊎ Rests old new r)
     × (new.most ≡ old.most)
-
--- the socket inside is bound to the address, and no rest is left
-abbrev pub RestingIsBound : {S : Type 0} → Bound S → Bound (Resting S)
-RestingIsBound is_bound s a = is_bound s.socket a × (s.rests ≡ 0)
 
 -- a send goes through the socket inside, and the rest is unchanged
 abbrev pub RestingSends : {S : Type 0} → Sent S → Sent (Resting S)

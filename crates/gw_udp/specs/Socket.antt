@@ -1,33 +1,7 @@
 -- The relations of a datagram socket.
-use Rattle.std.specs.Prelude.{ℕ, Bool, List, Option, Some, None, Result, Ok, Err}
-use Rattle.std.specs.declared.io.Error.{Error}
+use Rattle.std.specs.Prelude.{ℕ, List, Option, Some, None, Result, Ok, Err}
 use Rattle.std.specs.declared.net.socket_addr.SocketAddr.{SocketAddr}
-use Rattle.mio.specs.declared.poll.Poll.{Poll}
 use Rattle.gw_records.specs.declared.ports.PortFault.{PortFault}
-
--- relates a socket and the address that it is bound to
-abbrev pub Bound : Type 0 → Type 1
-Bound S = S → SocketAddr → Type 0
-
--- what a socket was bound to it is bound to
-abbrev pub KeepsBound : {S : Type 0} → Bound S → S → S → Type 0
-KeepsBound is_bound old new = (a : SocketAddr) → is_bound old a → is_bound new a
-
--- relates a socket, a poll, a token, and whether the system says by these what comes to the socket
-abbrev pub Watched : Type 0 → Type 1
-Watched S = S → Poll → ℕ → Bool → Type 0
-
--- of an address at which the system gave no socket, and its error
-abbrev pub BindRefused : Type 1
-BindRefused = SocketAddr → Error → Type 0
-
--- relates a descriptor that this process was given, the socket there, and its own address
-abbrev pub Inherited : Type 0 → Type 1
-Inherited S = ℕ → Bound S
-
--- of a descriptor at which no socket of this address can be taken
-abbrev pub Lacking : Type 1
-Lacking = ℕ → SocketAddr → Type 0
 
 -- relates a socket before and after a receive, the answer, and the room afterwards
 abbrev pub Received : Type 0 → Type 1

@@ -1,5 +1,5 @@
 -- The senders whose datagrams are accepted.
-use Rattle.std.specs.Prelude.{◌≡◌, ⊤, ℕ, List, Option, Some, None, codes}
+use Rattle.std.specs.Prelude.{◌≡◌, ⊤, Option, Some, None}
 use Rattle.std.specs.declared.net.socket_addr.SocketAddr.{SocketAddr}
 use Rattle.std.specs.Net.Socket.{socket_ip, socket_port}
 use Rattle.gw_udp.specs.declared.source_filter.SourceFilter.{SourceFilter}
@@ -17,10 +17,3 @@ IsAccepted Host peer first from = socket_ip from ≡ socket_ip peer
 IsAccepted Peer peer first from = IsSameSender from peer
 IsAccepted First peer None from = ⊤
 IsAccepted First peer (Some known) from = IsSameSender from known
-
--- the name of senders
-abbrev pub senders_name : SourceFilter → List ℕ
-senders_name Any = codes "any"
-senders_name Host = codes "host"
-senders_name Peer = codes "peer"
-senders_name First = codes "first"

@@ -21,6 +21,6 @@ told ports = record {
 -- Sockets have looked: the system was asked what came to them, and none gave an octet since.
 pub record HasLooked {S : Type 0} {m : _} (ports : UdpPorts S m) : Type 0 where
   pub came : List Bool
-  pub asked : AsksSystem ports.readiness.poller came ports.readiness.came
+  pub asked : AsksSystem came ports.readiness.came
   pub cleared : ports.given.counts ≡ replicate 30 0
   pub from_here : ports.at_look.value.calls ≡ ports.log.calls

@@ -1,62 +1,39 @@
 -- The sockets of circuits, and the effect of a receive and a send for a circuit.
 use Rattle.std.specs.Prelude.{◌≡◌, ◌≢◌, ◌⊎◌, ◌-◌, ◌<◌, ◌≤◌, ℕ, zero, suc, List, slice_index_or, ⊤}
-use Rattle.std.specs.Prelude.{Bool, MatchOption, Option, Some, None, Result, Ok, Err, string_bytes}
+use Rattle.std.specs.Prelude.{Option, Some, None, Result, Ok, Err, string_bytes}
 use Rattle.std.specs.declared.net.socket_addr.SocketAddr.{SocketAddr}
 use Rattle.std.specs.Net.Addr.{is_ipv4}
 use Rattle.std.specs.Net.Socket.{socket_ip}
 use Rattle.gw_config.specs.declared.config.Port.{Port}
 use Rattle.gw_records.specs.declared.ports.PortFault.{PortFault}
 use Rattle.gw_records.specs.Ports.{Addresses}
-use Rattle.gw_udp.specs.Names.{LookUp, IsAddressOf}
+use Rattle.gw_udp.specs.Opening.{IsAddressOf}
 use Rattle.gw_udp.specs.SourceFilter.{IsAccepted}
-use Rattle.gw_udp.specs.Socket.{Bound, Received, Sent, Watched}
-use Rattle.gw_udp.specs.declared.readiness.Poller.{Poller}
+use Rattle.gw_udp.specs.Socket.{Received, Sent}
 use Rattle.gw_udp.specs.declared.source_filter.SourceFilter.{SourceFilter}
-use Rattle.gw_udp.specs.declared.source_filter.SourceFilter.TheVariants.{Peer}
 use Rattle.gw_udp.specs.declared.udp.Endpoint.{Endpoint}
 
--- a socket is bound to the address, and takes datagrams of every sender unless the peer's alone are accepted
-abbrev pub TakesFrom : {S : Type 0} → Bound S → (S → Type 0) → SourceFilter → Bound S
-TakesFrom is_bound is_open senders socket address =
-    is_bound socket address × (senders ≢ Peer → is_open socket)
-
--- the socket is bound to the host at the circuit's local port, its datagrams go to the circuit's peer, and
--- both addresses are of one family
-pub record IsEndpointOf {S : Type 0} (is_bound : Bound S) (looks_up : LookUp) (host : List ℕ)
-    (senders : SourceFilter) (port : Port) (e : Endpoint S) : Type 0 where
-  pub bound : is_bound e.socket e.here.value
-  pub here_is : IsAddressOf looks_up host port.local_port e.here.value
+-- the socket is the host's at the circuit's local port, its datagrams go to the circuit's peer, and both
+-- addresses are of one family
+pub record IsEndpointOf {S : Type 0} (host : List ℕ) (senders : SourceFilter) (port : Port) (e : Endpoint S)
+    : Type 0 where
+  pub here_is : IsAddressOf host port.local_port e.here.value
   pub senders_are : e.senders ≡ senders
-  pub peer_is : IsAddressOf looks_up (string_bytes port.peer_host) port.peer_port e.peer
+  pub peer_is : IsAddressOf (string_bytes port.peer_host) port.peer_port e.peer
   pub one_family : is_ipv4 (socket_ip e.here.value) ≡ is_ipv4 (socket_ip e.peer)
 
 -- there is a socket exactly if there are ports, and it is theirs
-abbrev pub IsEndpoint : {S : Type 0} → Bound S → LookUp → List ℕ → SourceFilter → Option Port
-    → Option (Endpoint S) → Type 0
-IsEndpoint is_bound looks_up host senders None None = ⊤
-IsEndpoint is_bound looks_up host senders None (Some e) = ⊥
-IsEndpoint is_bound looks_up host senders (Some port) None = ⊥
-IsEndpoint is_bound looks_up host senders (Some port) (Some e) =
-    IsEndpointOf is_bound looks_up host senders port e
+abbrev pub IsEndpoint : {S : Type 0} → List ℕ → SourceFilter → Option Port → Option (Endpoint S) → Type 0
+IsEndpoint host senders None None = ⊤
+IsEndpoint host senders None (Some e) = ⊥
+IsEndpoint host senders (Some port) None = ⊥
+IsEndpoint host senders (Some port) (Some e) = IsEndpointOf host senders port e
 
 -- each of the first this many circuits has the socket of its own ports
-abbrev pub HasEndpoints : {S : Type 0} → Bound S → LookUp → List ℕ → SourceFilter → List (Option Port)
+abbrev pub HasEndpoints : {S : Type 0} → List ℕ → SourceFilter → List (Option Port)
     → List (Option (Endpoint S)) → ℕ → Type 0
-HasEndpoints {S} is_bound looks_up host senders ports endpoints n =
-    (i : ℕ) (d : Option Port) (e : Option (Endpoint S)) → i < n
-    → IsEndpoint is_bound looks_up host senders (slice_index_or ports i d) (slice_index_or endpoints i e)
-
--- what comes to a socket is told by this poller, if there is one, under the number of its circuit less 1, and
--- the socket takes datagrams of its peer
-pub record Hears {S : Type 0} (watches : Watched S) (is_joined : Bound S) (is_open : S → Type 0)
-    (poller : Option Poller) (place : ℕ) (e : Endpoint S) : Type 0 where
-  pub watched : MatchOption poller ⊤ (λ p. (agreed : Bool) × watches e.socket p.poll place agreed)
-  pub takes : is_joined e.socket e.peer ⊎ is_open e.socket
-
--- .. of each of the first this many circuits that has one
-abbrev pub EachHears : {S : Type 0} → (ℕ → Endpoint S → Type 0) → List (Option (Endpoint S)) → ℕ → Type 0
-EachHears {S} hears endpoints n = (i : ℕ) (d : Option (Endpoint S)) → i < n
-    → MatchOption (slice_index_or endpoints i d) ⊤ (hears i)
+HasEndpoints {S} host senders ports endpoints n = (i : ℕ) (d : Option Port) (e : Option (Endpoint S)) → i < n
+    → IsEndpoint host senders (slice_index_or ports i d) (slice_index_or endpoints i e)
 
 -- all circuits except this one are unchanged
 abbrev pub KeepsOthers : {S : Type 0} → ℕ → List (Option (Endpoint S)) → List (Option (Endpoint S)) → Type 0

@@ -1,11 +1,9 @@
 //! How many receives of a socket rest after one that found none.
 
-ghost use Rattle.std.specs.Prelude.{◌≡◌, ◌≤◌, ℕ, List, length, Ok, None, IfNone, IfOk, IfErr, IfSome, IsTrue};
-ghost use Rattle.std.specs.Prelude.{IsFalse};
+ghost use Rattle.std.specs.Prelude.{◌≡◌, ◌≤◌, ℕ, List, length, Ok, None, IfOk, IfSome, IsTrue, IsFalse};
 ghost use Rattle.std.specs.Prelude.{if◌then◌else◌};
-ghost use Rattle.gw_udp.specs.Resting.{Asks, HasRested, RestingIsBound, RestingReceives, RestingSends};
-ghost use Rattle.gw_udp.specs.Resting.{rests_after};
-ghost use Rattle.gw_udp.specs.Socket.{KeepsBound, ReceivesAny};
+ghost use Rattle.gw_udp.specs.Resting.{Asks, HasRested, RestingReceives, RestingSends, rests_after};
+ghost use Rattle.gw_udp.specs.Socket.{ReceivesAny};
 
 use crate::resting::Resting;
 use crate::socket::Socket;
@@ -33,22 +31,6 @@ fn rests_after<X>(most: u16, answer: &Result<Option<X>, PortFault>) -> u16
 }
 
 impl<S: Socket> Socket for Resting<S> {
-    ghost is_bound = { RestingIsBound S.is_bound };
-
-    ghost inherits = { λ descriptor. RestingIsBound (S.inherits descriptor) };
-
-    ghost lacks = { S.lacks };
-
-    ghost is_joined = { λ s peer. S.is_joined s.socket peer };
-
-    ghost is_open = { λ s. S.is_open s.socket };
-
-    ghost watches = { λ s. S.watches s.socket };
-
-    ghost makes_room = { λ s. S.makes_room s.socket };
-
-    ghost refuses = { S.refuses };
-
     ghost receives = { RestingReceives S.receives };
 
     ghost asks = { Asks S.receives };
@@ -58,10 +40,7 @@ impl<S: Socket> Socket for Resting<S> {
     ghost sends = { RestingSends S.sends };
 
     fn bind<N: Net>(net: &N, address: SocketAddr) -> io::Result<Resting<S>>
-        ensures ok { IfOk result (λ s. RestingIsBound S.is_bound s address) }
-        ensures open { IfOk result (λ s. S.is_open s.socket) }
         ensures most { IfOk result (λ s. s.most ≡ 7) }
-        ensures err { IfErr result (λ e. S.refuses address e) }
     {
         Ok(Resting {
             socket: S::bind(net, address)?,
@@ -71,10 +50,7 @@ impl<S: Socket> Socket for Resting<S> {
     }
 
     fn inherit(descriptor: u16, address: SocketAddr) -> Option<Resting<S>>
-        ensures some { IfSome result (λ s. RestingIsBound (S.inherits descriptor) s address) }
-        ensures open { IfSome result (λ s. S.is_open s.socket) }
         ensures most { IfSome result (λ s. s.most ≡ 7) }
-        ensures none { IfNone result (S.lacks descriptor address) }
     {
         Some(Resting {
             socket: S::inherit(descriptor, address)?,
@@ -92,12 +68,6 @@ impl<S: Socket> Socket for Resting<S> {
     }
 
     fn watch(&mut self, poll: &Poll, token: Token) -> bool
-        ensures bound { KeepsBound (RestingIsBound S.is_bound) self.old self.new }
-        ensures inherited { (descriptor : ℕ)
-            → KeepsBound (RestingIsBound (S.inherits descriptor)) self.old self.new }
-        ensures joined { KeepsBound S.is_joined self.old.socket self.new.socket }
-        ensures open { S.is_open self.old.socket → S.is_open self.new.socket }
-        ensures watched { S.watches self.new.socket poll.now token.0 result }
         ensures most { self.new.most ≡ (if result then 799 else self.old.most) }
     {
         let watched = self.socket.watch(poll, token);

@@ -1,7 +1,6 @@
 //! The sockets that this process was given, at descriptors (`Descriptors`).
 
-ghost use Rattle.std.specs.Prelude.{◌≤◌, ℕ, IfErr, IfNone, IfOk, IfSome};
-ghost use Rattle.gw_udp.specs.Inheriting.{IsAt, IsOfFirst, IsRefusedAt, NoneHas};
+ghost use Rattle.std.specs.Prelude.{◌≤◌, ℕ};
 
 use crate::socket::Socket;
 use std::io;
@@ -26,11 +25,7 @@ impl Descriptors {
 }
 
 // The socket at the first of these descriptors that has one of this address.
-fn inherited<S: Socket>(among: Descriptors, address: SocketAddr) -> Option<S>
-    ensures some { IfSome result (λ s. IsOfFirst S.inherits S.lacks among s address) }
-    ensures open { IfSome result S.is_open }
-    ensures none { IfNone result (NoneHas S.lacks among address) }
-{
+fn inherited<S: Socket>(among: Descriptors, address: SocketAddr) -> Option<S> {
     for descriptor in among.first..=among.last {
         if let Some(socket) = S::inherit(descriptor, address) {
             return Some(socket);
@@ -44,11 +39,7 @@ pub(crate) fn socket_at<S: Socket>(
     net: &impl Net,
     among: Descriptors,
     address: SocketAddr,
-) -> io::Result<S>
-    ensures ok { IfOk result (λ s. IsAt S.is_bound S.inherits S.lacks among s address) }
-    ensures open { IfOk result S.is_open }
-    ensures err { IfErr result (λ e. IsRefusedAt S.lacks S.refuses among address e) }
-{
+) -> io::Result<S> {
     match inherited(among, address) {
         Some(socket) => Ok(socket),
         None => S::bind(net, address),

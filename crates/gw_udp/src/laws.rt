@@ -3,17 +3,15 @@
 ghost use Rattle.std.specs.Prelude.{◌≡◌, true};
 ghost use Rattle.gw_udp.specs.Calls.{EachHasItsSocket};
 ghost use Rattle.gw_udp.specs.Given.{GivesFew};
-ghost use Rattle.gw_udp.specs.Inheriting.{IsHere};
 
 use crate::socket::Socket;
 use crate::udp::UdpPorts;
 
 /// Each circuit has its own socket.
 ///
-/// It was bound to its address when it was opened, or taken with it at a descriptor, and the calls for this
-/// circuit, and no others, were made at it one after another.
+/// The calls for this circuit, and no others, were made at it one after another.
 pub fn each_has_its_socket<S: Socket>(_ports: &UdpPorts<S>)
-    ensures { ∥ EachHasItsSocket (IsHere S.is_bound S.inherits) S.receives S.sends _ports.now.log.calls
+    ensures { ∥ EachHasItsSocket S.receives S.sends _ports.now.log.calls
         _ports.now.opened.value.items _ports.now.endpoints.items ∥₁ }
 {}
 

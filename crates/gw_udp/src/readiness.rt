@@ -1,9 +1,8 @@
 //! Which sockets the system says that a datagram has come to.
 
-ghost use Rattle.std.specs.Prelude.{◌≡◌, ◌==◌, ◌||◌, ◌-◌, ◌<◌, ℕ, Bool, MatchOption, ⊤};
+ghost use Rattle.std.specs.Prelude.{◌≡◌, ◌==◌, ◌||◌, ◌-◌, ◌<◌, ℕ};
 ghost use Rattle.mio.specs.Events.{items};
-ghost use Rattle.gw_udp.specs.Ready.{AreNoted, AsksSystem, Clears, IsCounted, SystemHasReported, has_come};
-ghost use Rattle.gw_udp.specs.Socket.{KeepsBound};
+ghost use Rattle.gw_udp.specs.Ready.{AreNoted, AsksSystem, Clears, IsCounted, has_come};
 
 use crate::socket::Socket;
 use g704_cas::CircuitNo;
@@ -59,23 +58,16 @@ fn note_all(events: &Events, came: &mut [bool; 30])
     }
 }
 
-// Asks the system what has come, without a wait. There are no events if it refuses.
-#[tactic(auto, unfolding(crate::specs::Ready::SystemHasReported))]
-fn ask_now(poller: &mut Poller)
-    ensures { SystemHasReported poller.new.poll (items poller.new.events) }
-{
-    let _ = poller.poll.poll(&mut poller.events, Some(Duration::ZERO));
-}
-
-// Notes the sockets that datagrams have come to since this was last called.
+// Notes the sockets that datagrams have come to since this was last called, without a wait. There are no
+// events if the system refuses.
 #[inline(never)]
 fn ask_system(poller: &mut Option<Poller>, came: &mut [bool; 30])
-    ensures { AsksSystem poller.new came.old came.new }
+    ensures { AsksSystem came.old came.new }
 {
     let Some(poller) = poller else {
         return;
     };
-    ask_now(poller);
+    let _ = poller.poll.poll(&mut poller.events, Some(Duration::ZERO));
     note_all(&poller.events, came);
 }
 
@@ -90,14 +82,7 @@ impl Readiness {
     }
 
     /// Has the system say what comes to the socket of the circuit of this number.
-    pub(crate) fn watch<S: Socket>(&self, circuit: u8, socket: &mut S)
-        ensures bound { KeepsBound S.is_bound socket.old socket.new }
-        ensures inherited { (descriptor : ℕ) → KeepsBound (S.inherits descriptor) socket.old socket.new }
-        ensures joined { KeepsBound S.is_joined socket.old socket.new }
-        ensures open { S.is_open socket.old → S.is_open socket.new }
-        ensures watched { MatchOption self.now.poller ⊤
-            (λ p. (agreed : Bool) × S.watches socket.new p.poll (circuit - 1) agreed) }
-    {
+    pub(crate) fn watch<S: Socket>(&self, circuit: u8, socket: &mut S) {
         if let Some(poller) = &self.poller {
             let token = Token(usize::from(circuit.saturating_sub(1)));
             let _ = socket.watch(&poller.poll, token);
@@ -106,7 +91,7 @@ impl Readiness {
 
     /// Asks the system which sockets datagrams have come to. The next 249 receives ask it no more.
     pub(crate) fn look(&mut self)
-        ensures asks { AsksSystem self.new.poller self.old.came self.new.came }
+        ensures asks { AsksSystem self.old.came self.new.came }
         ensures counts { self.new.receives ≡ 0 }
     {
         self.receives = 0;
@@ -140,7 +125,6 @@ impl Readiness {
     pub(crate) fn clear(&mut self, circuit: CircuitNo)
         ensures clears { Clears self.old.came self.new.came circuit }
         ensures counts { self.new.receives ≡ self.old.receives }
-        ensures poller { self.new.poller ≡ self.old.poller }
     {
         let at = usize::from(circuit.get()) - 1;
         self.came[at] = false;

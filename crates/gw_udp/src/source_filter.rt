@@ -1,7 +1,7 @@
 //! Whether a sender's datagrams are accepted: any, the peer's host, the peer, the first (`SourceFilter`).
 
-ghost use Rattle.std.specs.Prelude.{◌≡◌, ◌≢◌, ◌↔◌, IfSome, IfNone, IsTrue};
-ghost use Rattle.gw_udp.specs.SourceFilter.{IsAccepted, IsSameSender, senders_name};
+ghost use Rattle.std.specs.Prelude.{◌↔◌, IsTrue};
+ghost use Rattle.gw_udp.specs.SourceFilter.{IsAccepted, IsSameSender};
 
 use std::net::SocketAddr;
 
@@ -19,20 +19,6 @@ pub enum SourceFilter {
 }
 
 impl SourceFilter {
-    /// The senders with this name: `any`, `host`, `peer` or `first`.
-    pub fn named(name: &str) -> Option<SourceFilter>
-        ensures found { IfSome result (λ senders. name.now ≡ senders_name senders) }
-        ensures none { IfNone result ((senders : SourceFilter) → name.now ≢ senders_name senders) }
-    {
-        match name {
-            "any" => Some(SourceFilter::Any),
-            "host" => Some(SourceFilter::Host),
-            "peer" => Some(SourceFilter::Peer),
-            "first" => Some(SourceFilter::First),
-            _ => None,
-        }
-    }
-
     /// Whether a datagram from an address is accepted, given the peer's, and the first sender of the call.
     pub fn accepts(self, from: SocketAddr, peer: SocketAddr, first: Option<SocketAddr>) -> bool
         ensures { IsTrue result ↔ IsAccepted self peer first from }

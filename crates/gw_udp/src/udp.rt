@@ -1,38 +1,32 @@
 //! How each circuit's socket is opened, receives from accepted senders and sends (`UdpPorts`).
 
 ghost use Rattle.std.specs.Prelude.{◌≡◌, ◌≢◌, ◌⊎◌, ◌-◌, ◌≤◌, ℕ, Bool, List, Option, vec_len, vec_capacity};
-ghost use Rattle.std.specs.Prelude.{length, slice_index_or, Ok, None, IfOk, IfErr, IfSome, IsSomeAnd};
-ghost use Rattle.std.specs.Prelude.{MatchOption, ⊤, replicate, slice_set, true};
-ghost use Rattle.std.specs.Prelude.{IsTrue, IsFalse, OnErr, string_bytes};
+ghost use Rattle.std.specs.Prelude.{length, Ok, None, IfOk, IfErr, IfSome, IsSomeAnd};
+ghost use Rattle.std.specs.Prelude.{⊤, replicate, slice_set, true, IsTrue, IsFalse};
 ghost use Rattle.std.specs.IoError.{error_kind};
-ghost use Rattle.gw_records.specs.Ports.{Receives, Sends, CountsFault, KeepsSends, KeepsReceives};
-ghost use Rattle.gw_state.specs.Memory.{MemoryIsRefused};
-ghost use Rattle.gw_udp.specs.Names.{IsAddressOf, LacksAddress, SystemLooksUp};
 ghost use Rattle.std.specs.declared.net.socket_addr.SocketAddr.{SocketAddr};
+ghost use Rattle.gw_records.specs.Ports.{Receives, Sends, CountsFault, KeepsSends, KeepsReceives};
+ghost use Rattle.gw_udp.specs.Calls.{HasCalled, IsFresh};
 ghost use Rattle.gw_udp.specs.First.{EndpointSender, IsSenderOf, first_of, known_after};
-ghost use Rattle.gw_udp.specs.SourceFilter.{IsAccepted};
 ghost use Rattle.gw_udp.specs.Given.{GivesFew, HasGivenEnough, given_after};
-ghost use Rattle.gw_udp.specs.Inheriting.{IsAt, IsHere, IsRefusedAt};
+ghost use Rattle.gw_udp.specs.Opening.{Blames, BlamesPorts, IsAddressOf, IsFaultOf};
 ghost use Rattle.gw_udp.specs.Ready.{Clears, IsAsked, IsCounted};
-ghost use Rattle.gw_udp.specs.Udp.{EachHears, Hears, IsEndpointOf, IsEndpoint, HasEndpoints, KeepsOthers};
-ghost use Rattle.gw_udp.specs.Opening.{Blames, LacksSocket, IsFaultOf, FailsToOpen};
-ghost use Rattle.gw_udp.specs.Socket.{KeepsBound};
-ghost use Rattle.gw_udp.specs.Udp.{ReceivesFrom, EndpointReceives, EndpointRests, EndpointSends, TakesFrom};
-ghost use Rattle.gw_udp.specs.Calls.{HasCalled, AreBound, IsFresh};
+ghost use Rattle.gw_udp.specs.SourceFilter.{IsAccepted};
+ghost use Rattle.gw_udp.specs.Udp.{IsEndpointOf, IsEndpoint, HasEndpoints, KeepsOthers};
+ghost use Rattle.gw_udp.specs.Udp.{ReceivesFrom, EndpointReceives, EndpointRests, EndpointSends};
 
 use crate::first_senders::FirstSenders;
 use crate::given::GivenOctets;
 use crate::inherited::{Descriptors, socket_at};
-use crate::names::NameLookup;
 use crate::readiness::Readiness;
 use crate::socket::Socket;
 use crate::source_filter::SourceFilter;
 use g704_cas::CircuitNo;
 use gw_config::Port;
 use gw_records::{AtStart, Log, PortFault, Ports};
-use std::alloc::{AllocError, Global};
+use std::alloc::Global;
 use std::io::{self, ErrorKind};
-use std::net::{IpAddr, Net, SocketAddr};
+use std::net::{IpAddr, Net, SocketAddr, ToSocketAddrs};
 use thiserror::Error;
 
 const CIRCUITS: usize = 30;
@@ -52,10 +46,9 @@ pub enum OpenFault {
     Socket(u8),
 }
 
-// Sockets that are asked for: at this host, by these lookups, for these senders, some at these descriptors.
+// Sockets that are asked for: at this host, for these senders, some at these descriptors.
 #[derive(Drop)]
-struct SocketsAsked<'a, L> {
-    names: &'a L,
+struct SocketsAsked<'a> {
     host: &'a str,
     senders: SourceFilter,
     among: Descriptors,
@@ -88,13 +81,11 @@ pub struct UdpPorts<S: Socket> {
     pub(crate) at_look: AtStart<Log>,
     ghost thirty: { vec_len endpoints ≡ 30 },
     ghost memory: { vec_capacity endpoints ≡ 30 },
-    ghost bound: { ∥ AreBound (IsHere S.is_bound S.inherits) opened.value.items ∥₁ },
     ghost called: { ∥ HasCalled S.receives S.sends log.calls opened.value.items endpoints.items ∥₁ },
     ghost few: { given.limited ≡ true → ∥ GivesFew at_look.value.calls log.calls given.counts ∥₁ },
 }
 
 // The fault of an error: out of memory, or a fault of this circuit.
-#[tactic(auto, unfolding(gw_state::specs::Memory::MemoryIsRefused))]
 fn fault_of(circuit: u8, error: &io::Error) -> OpenFault
     ensures { Blames circuit (error_kind error.now) result }
 {
@@ -104,20 +95,20 @@ fn fault_of(circuit: u8, error: &io::Error) -> OpenFault
     }
 }
 
+// The first address of a host by its name. The error is the system's.
+fn look_up(net: &impl Net, host: &str, port: u16) -> io::Result<Option<SocketAddr>> {
+    Ok((host, port).to_socket_addrs(net)?.next())
+}
+
 // The address of a host with this port: the first of a lookup if it is a name.
-fn address_of<L: NameLookup>(
-    names: &L,
-    circuit: u8,
-    host: &str,
-    port: u16,
-) -> Result<SocketAddr, OpenFault>
-    ensures ok { IfOk result (IsAddressOf (L.looks_up names.now) host.now port) }
-    ensures err { IfErr result (IsFaultOf circuit (LacksAddress (L.looks_up names.now) host.now port)) }
+fn address_of(net: &impl Net, circuit: u8, host: &str, port: u16) -> Result<SocketAddr, OpenFault>
+    ensures ok { IfOk result (IsAddressOf host.now port) }
+    ensures err { IfErr result (IsFaultOf circuit) }
 {
     if let Ok(ip) = host.parse::<IpAddr>() {
         return Ok(SocketAddr::new(ip, port));
     }
-    match names.look_up(host, port) {
+    match look_up(net, host, port) {
         Ok(Some(mut address)) => {
             address.set_port(port);
             Ok(address)
@@ -129,37 +120,25 @@ fn address_of<L: NameLookup>(
 
 // Has the system discard strangers' datagrams, if only the peer is accepted. It does so at less cost; if it
 // does not, each receive does.
-fn restrict<S: Socket>(socket: &mut S, senders: SourceFilter, peer: SocketAddr)
-    ensures bound { KeepsBound S.is_bound socket.old socket.new }
-    ensures inherited { (descriptor : ℕ) → KeepsBound (S.inherits descriptor) socket.old socket.new }
-    ensures open { senders ≢ SourceFilter.Peer → S.is_open socket.old → S.is_open socket.new }
-    ensures takes { S.is_open socket.old → S.is_joined socket.new peer ⊎ S.is_open socket.new }
-{
+fn restrict<S: Socket>(socket: &mut S, senders: SourceFilter, peer: SocketAddr) {
     if let SourceFilter::Peer = senders {
         let _ = socket.connect(peer);
     }
 }
 
 // Opens a circuit's socket by its configuration.
-fn open_endpoint<S: Socket, L: NameLookup>(
+fn open_endpoint<S: Socket>(
     net: &impl Net,
     readiness: &Readiness,
     circuit: u8,
     port: &Port,
-    asked: &SocketsAsked<L>,
+    asked: &SocketsAsked,
 ) -> Result<Endpoint<S>, OpenFault>
-    ensures ok { IfOk result (IsEndpointOf
-        (TakesFrom (IsAt S.is_bound S.inherits S.lacks asked.now.among) S.is_open asked.now.senders)
-        (L.looks_up asked.now.names.now) asked.now.host.now asked.now.senders port.now) }
-    ensures hears { IfOk result
-        (Hears S.watches S.is_joined S.is_open readiness.now.poller (circuit - 1)) }
-    ensures err { IfErr result (IsFaultOf circuit
-        (LacksSocket (IsRefusedAt S.lacks S.refuses asked.now.among) (L.looks_up asked.now.names.now)
-        asked.now.host.now port.now)) }
+    ensures ok { IfOk result (IsEndpointOf asked.now.host.now asked.now.senders port.now) }
+    ensures err { IfErr result (IsFaultOf circuit) }
 {
-    let names = asked.names;
-    let here = address_of(names, circuit, asked.host, port.local_port)?;
-    let peer = address_of(names, circuit, port.peer_host.as_str(), port.peer_port)?;
+    let here = address_of(net, circuit, asked.host, port.local_port)?;
+    let peer = address_of(net, circuit, port.peer_host.as_str(), port.peer_port)?;
     // A socket of one family sends nothing to an address of the other.
     if here.is_ipv4() != peer.is_ipv4() {
         return Err(OpenFault::Socket(circuit));
@@ -180,21 +159,16 @@ fn open_endpoint<S: Socket, L: NameLookup>(
 }
 
 // Opens the socket of a circuit, if it has ports.
-fn endpoint_of<S: Socket, L: NameLookup>(
+fn endpoint_of<S: Socket>(
     net: &impl Net,
     readiness: &Readiness,
     circuit: u8,
     port: &Option<Port>,
-    asked: &SocketsAsked<L>,
+    asked: &SocketsAsked,
 ) -> Result<Option<Endpoint<S>>, OpenFault>
-    ensures ok { IfOk result (IsEndpoint
-        (TakesFrom (IsAt S.is_bound S.inherits S.lacks asked.now.among) S.is_open asked.now.senders)
-        (L.looks_up asked.now.names.now) asked.now.host.now asked.now.senders port.now) }
-    ensures hears { IfOk result (λ e. MatchOption e ⊤
-        (Hears S.watches S.is_joined S.is_open readiness.now.poller (circuit - 1))) }
-    ensures err { IfErr result (IsFaultOf circuit
-        (IsSomeAnd port.now (LacksSocket (IsRefusedAt S.lacks S.refuses asked.now.among)
-        (L.looks_up asked.now.names.now) asked.now.host.now))) }
+    ensures ok { IfOk result (IsEndpoint asked.now.host.now asked.now.senders port.now) }
+    ensures err { IfErr result (IsFaultOf circuit) }
+    ensures some { IfErr result (λ _. IsSomeAnd port.now (λ _. ⊤)) }
 {
     match port {
         Some(port) => Ok(Some(open_endpoint(net, readiness, circuit, port, asked)?)),
@@ -417,16 +391,6 @@ fn count_fault<T>(failed: &mut u64, came: &Result<T, PortFault>)
     }
 }
 
-// Room for the sockets. The error is that memory was refused.
-#[tactic(auto, unfolding(gw_state::specs::Memory::MemoryIsRefused))]
-fn open_room<S>(alloc: Global) -> Result<Vec<Option<Endpoint<S>>>, AllocError>
-    ensures empty { IfOk result (λ room. length room.items ≡ 0) }
-    ensures memory { IfOk result (λ room. vec_capacity room ≡ 30) }
-    ensures err { OnErr result MemoryIsRefused }
-{
-    Vec::with_capacity(alloc, CIRCUITS)
-}
-
 impl<S: Socket> UdpPorts<S> {
     /// Opens the sockets of the circuits that have ports.
     ///
@@ -440,22 +404,16 @@ impl<S: Socket> UdpPorts<S> {
         senders: SourceFilter,
         among: Descriptors,
     ) -> Result<UdpPorts<S>, OpenFault>
-        ensures ok { IfOk result (λ opened. HasEndpoints
-            (TakesFrom (IsAt S.is_bound S.inherits S.lacks among) S.is_open senders) SystemLooksUp host.now
-            senders ports.now opened.endpoints.items 30) }
-        ensures hears { IfOk result (λ p. EachHears (Hears S.watches S.is_joined S.is_open p.readiness.poller)
-            p.endpoints.items 30) }
+        ensures ok { IfOk result (λ opened. HasEndpoints host.now senders ports.now
+            opened.endpoints.items 30) }
         ensures fresh { IfOk result (λ p. IsFresh p.endpoints.items p.opened.value.items p.log.calls) }
-        ensures err { IfErr result (FailsToOpen
-            (TakesFrom (IsAt S.is_bound S.inherits S.lacks among) S.is_open senders)
-            (IsRefusedAt S.lacks S.refuses among) SystemLooksUp host.now senders ports.now) }
+        ensures err { IfErr result (BlamesPorts ports.now) }
     {
-        let Ok(mut endpoints) = open_room(alloc) else {
+        let Ok(mut endpoints) = Vec::with_capacity(alloc, CIRCUITS) else {
             return Err(OpenFault::OutOfMemory);
         };
         let readiness = Readiness::open(net, alloc);
         let asked = SocketsAsked {
-            names: net,
             host,
             senders,
             among,

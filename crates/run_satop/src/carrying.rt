@@ -9,12 +9,13 @@ use gw_command::SatopOptions;
 use gw_machine::ProgramFault;
 use gw_records::{NO_TOTALS, RunFault, Totals};
 use gw_satop::{
-    Clock, Peer, PlayClock, Receiver, SatopCircuit, Sender, SenderSettings, carry_satop,
+    PlayClock, Receiver, SatopCircuit, Sender, SenderSettings, SystemClock, UdpPeer, carry_satop,
 };
 use gw_trunk::{TrunkInput, TrunkOutput};
+use gw_udp::SystemSocket;
 use std::net::Net;
 use std::random::RandomSource;
-use std::rt::{self, Stdin, Stdout};
+use std::rt::{Clock, Stdin, Stdout};
 
 // A random number of 16 bits; 0 if the system has none.
 fn draw_16(rt: &impl RandomSource) -> u16 {
@@ -47,9 +48,9 @@ fn start_of(rt: &impl RandomSource, asked: &CircuitAsked) -> SenderSettings
 }
 
 // Carries a circuit until no octet comes from the trunk any more.
-fn carry<I: TrunkInput, O: TrunkOutput, P: Peer, M: Clock>(
-    circuit: &mut SatopCircuit<I, O, P>,
-    clock: &mut M,
+fn carry<I: TrunkInput, O: TrunkOutput, R: Clock + Eprint>(
+    circuit: &mut SatopCircuit<I, O, SystemSocket>,
+    clock: &mut SystemClock<'_, R>,
 ) -> Result<Totals, ProgramFault> {
     if carry_satop(circuit, clock).is_ok() {
         return Ok(NO_TOTALS);
@@ -62,37 +63,37 @@ fn carry<I: TrunkInput, O: TrunkOutput, P: Peer, M: Clock>(
 
 // Carries the circuit between its ends.
 #[inline(never)]
-fn emulate_between<I: TrunkInput + Drop, O: TrunkOutput + Drop, P: Peer + Drop, M: Clock + Drop>(
+fn emulate_between<I: TrunkInput + Drop, O: TrunkOutput + Drop, R: Clock + Eprint>(
     rt: &(impl RandomSource + AllocGlobal),
     asked: CircuitAsked,
     incoming: I,
     outgoing: O,
-    peer: P,
-    clock: M,
+    peer: UdpPeer<SystemSocket>,
+    clock: &mut SystemClock<'_, R>,
 ) -> Result<Totals, ProgramFault>
-    requires begins { HasNoTraffic (I.came incoming) (O.went outgoing) (P.received peer) (P.sent peer) }
+    requires begins { HasNoTraffic (I.came incoming) (O.went outgoing) peer.received.datagrams
+        peer.sent.datagrams }
 {
-    let mut clock = clock;
     let Ok(receiver) = Receiver::new(rt.alloc(), asked.settings, asked.rtp.is_some()) else {
         return Err(ProgramFault::OutOfMemory);
     };
     let sender = Sender::new(start_of(rt, &asked));
     let pace = PlayClock::new(asked.timing, clock.now());
     let mut circuit = SatopCircuit::new(incoming, outgoing, peer, receiver, sender, pace);
-    carry(&mut circuit, &mut clock)
+    carry(&mut circuit, clock)
 }
 
 // Carries the circuit between standard input and output and the far end.
-fn emulate_over<P: Peer + Drop, M: Clock + Drop>(
-    rt: &(impl Net + RandomSource + AllocGlobal),
+fn emulate_over<R: Net + Clock + RandomSource + Eprint + AllocGlobal>(
+    rt: &R,
     asked: CircuitAsked,
-    peer: P,
-    clock: M,
+    peer: UdpPeer<SystemSocket>,
+    clock: &mut SystemClock<'_, R>,
     input: Stdin,
     output: Stdout,
 ) -> Result<Totals, ProgramFault>
-    requires received { P.received peer ≡ [] }
-    requires sent { P.sent peer ≡ [] }
+    requires received { peer.received.datagrams ≡ [] }
+    requires sent { peer.sent.datagrams ≡ [] }
 {
     let incoming = open_stdin(rt, input)?;
     let outgoing = open_stdout(rt, output)?;
@@ -108,13 +109,14 @@ fn emulate_over<P: Peer + Drop, M: Clock + Drop>(
 /// if there is no socket, [`ProgramFault::Trunk`] if a stream can't be waited for,
 /// [`ProgramFault::OutOfMemory`], or [`ProgramFault::Session`] if the trunk fails.
 pub fn emulate(
-    rt: &(impl Net + rt::Clock + RandomSource + Eprint + AllocGlobal),
+    rt: &(impl Net + Clock + RandomSource + Eprint + AllocGlobal),
     options: &SatopOptions<'_>,
     input: Stdin,
     output: Stdout,
 ) -> Result<Totals, ProgramFault> {
     let asked = circuit_asked(options)?;
-    let mut peer = open_far_end(rt, options)?;
-    let clock = open_clock(rt, &mut peer)?;
-    emulate_over(rt, asked, peer, clock, input, output)
+    let (mut socket, address) = open_far_end(rt, options)?;
+    let mut clock = open_clock(rt, &mut socket)?;
+    let peer = UdpPeer::new(socket, address);
+    emulate_over(rt, asked, peer, &mut clock, input, output)
 }

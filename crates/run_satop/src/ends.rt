@@ -4,10 +4,10 @@ ghost use Rattle.std.specs.Prelude.{◌≡◌, [], IfOk};
 
 use gw_command::SatopOptions;
 use gw_machine::ProgramFault;
-use gw_satop::{SystemClock, UdpPeer, WhenReady, open_input, open_output};
-use gw_trunk::{FromDevice, ToDevice, Waiting};
+use gw_satop::{SystemClock, WhenReady, open_input, open_socket};
+use gw_trunk::{FromDevice, ToDevice};
 use gw_udp::SystemSocket;
-use std::net::Net;
+use std::net::{Net, SocketAddr};
 use std::rt::{Clock, Stdin, Stdout};
 
 // The descriptors of standard input and output.
@@ -15,16 +15,13 @@ const STDIN: i32 = 0;
 
 const STDOUT: i32 = 1;
 
-/// Opens the socket of the far end that the options name.
+/// Opens the socket that the options name, and returns it with the address of the far end.
 pub(crate) fn open_far_end(
     rt: &impl Net,
     options: &SatopOptions<'_>,
-) -> Result<UdpPeer<SystemSocket>, ProgramFault>
-    ensures received { IfOk result (λ p. p.received.datagrams ≡ []) }
-    ensures sent { IfOk result (λ p. p.sent.datagrams ≡ []) }
-{
-    match UdpPeer::open(rt, options.local, options.peer) {
-        Ok(peer) => Ok(peer),
+) -> Result<(SystemSocket, SocketAddr), ProgramFault> {
+    match open_socket(rt, options.local, options.peer) {
+        Ok(opened) => Ok(opened),
         Err(error) => Err(ProgramFault::of(&error, ProgramFault::FarEnd)),
     }
 }
@@ -33,7 +30,7 @@ pub(crate) fn open_far_end(
 pub(crate) fn open_stdin(
     rt: &(impl Net + AllocGlobal),
     input: Stdin,
-) -> Result<WhenReady<FromDevice<Stdin>, Waiting>, ProgramFault>
+) -> Result<WhenReady<FromDevice<Stdin>>, ProgramFault>
     ensures came { IfOk result (λ r. r.incoming.reader.log.octets ≡ []) }
 {
     match open_input(rt, input, STDIN) {
@@ -49,7 +46,7 @@ pub(crate) fn open_stdout(
 ) -> Result<ToDevice<Stdout>, ProgramFault>
     ensures went { IfOk result (λ d. d.log.octets ≡ []) }
 {
-    match open_output(rt, output, STDOUT) {
+    match ToDevice::open(rt, output, STDOUT) {
         Ok(outgoing) => Ok(outgoing),
         Err(error) => Err(ProgramFault::of(&error, ProgramFault::Trunk)),
     }
@@ -58,12 +55,9 @@ pub(crate) fn open_stdout(
 /// Opens the clock, which waits for both ends.
 pub(crate) fn open_clock<'r, R: Net + Clock + Eprint + AllocGlobal>(
     rt: &'r R,
-    peer: &mut UdpPeer<SystemSocket>,
-) -> Result<SystemClock<'r, R>, ProgramFault>
-    ensures received { peer.new.received ≡ peer.old.received }
-    ensures sent { peer.new.sent ≡ peer.old.sent }
-{
-    match SystemClock::open(rt, STDIN, peer) {
+    socket: &mut SystemSocket,
+) -> Result<SystemClock<'r, R>, ProgramFault> {
+    match SystemClock::open(rt, STDIN, socket) {
         Ok(clock) => Ok(clock),
         Err(error) => Err(ProgramFault::of(&error, ProgramFault::Trunk)),
     }

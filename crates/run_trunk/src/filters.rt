@@ -37,10 +37,6 @@ pub(crate) struct PrintedSlots {
 }
 
 impl SlotTeller for PrintedSlots {
-    ghost use Rattle.std.specs.Prelude.{⊤};
-
-    ghost has_told = { λ _ _. ⊤ };
-
     fn tell(&mut self, late: Option<u8>) {
         tell_slots(&self.errors, late);
     }

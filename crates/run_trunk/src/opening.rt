@@ -6,7 +6,7 @@ ghost use Rattle.run_trunk.specs.Opening.{IsFreshEnd, IsFreshTrunk};
 use crate::filters::{TrunkFilters, filters_as_asked};
 use gw_command::{ControlOptions, TrunkOptions};
 use gw_machine::{Machine, ProgramFault};
-use gw_trunk::{FromDevice, LocalDoors, ToDevice, WithClients, open_clients};
+use gw_trunk::{FromDevice, ToDevice, WithClients, open_clients};
 use mio::net::UnixStream;
 use std::net::Net;
 use std::rt::{Stderr, Stdin, Stdout};
@@ -51,8 +51,7 @@ fn open_with_clients(
 ) -> Result<Incoming, ProgramFault>
     ensures { IfOk result IsFreshEnd }
 {
-    let mut doors = LocalDoors::new(rt);
-    let (mut incoming, answers) = match open_clients(rt, &mut doors, input, STDIN, control.path) {
+    let (mut incoming, answers) = match open_clients(rt, input, STDIN, control.path) {
         Ok(both) => both,
         Err(error) => return Err(ProgramFault::of(&error, ProgramFault::Control)),
     };

@@ -1,4 +1,4 @@
-use Rattle.std.proofs.Common.{◌≤◌}
+use Rattle.std.proofs.Common.{◌≤◌, length}
 use Rattle.gw_satop.specs.Session.{HasSettings}
 use Rattle.gw_satop.proofs.carrying.carry_satop.Given as goal
 
@@ -7,5 +7,5 @@ abbrev pub invariant-loop-turn : goal.invariant-loop-turn
 invariant-loop-turn g l = record {
   same : HasSettings l.initial.circuit.receiver l.circuit.receiver l.initial.circuit.sender l.circuit.sender
       l.initial.circuit.pace l.circuit.pace;
-  waited : l._turn ≤ g.M.Clock.waits l.moments;
+  waited : l._turn ≤ length l.clock.waits.octets;
 }

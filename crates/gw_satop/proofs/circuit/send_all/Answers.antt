@@ -3,6 +3,7 @@ use Rattle.std.proofs.Common.{List}
 use Rattle.std.proofs.Math.Seq.{take-add}
 use Rattle.std.proofs.lemmas.Bool.{leb-false}
 use Rattle.std.proofs.lemmas.List.{length-drop, take_all}
+use Rattle.gw_satop.specs.declared.log.History.{History}
 use Rattle.gw_satop.proofs.Counting.{counted-more}
 use Rattle.gw_satop.proofs.Turning.{sent-more}
 use Rattle.gw_satop.proofs.circuit.send_all.Goals as goal
@@ -32,7 +33,7 @@ loop-at-preserved-then-packet g c = record {
       (sym (c.if-packet.ensures.sent refl));
   came = c.packet.ensures.came ∙ more-came _ _ _ _ _ _ c.loop-at.invariant.came c.fill-at.ensures.came;
   within = stays-within _ _ _ c.loop-at.invariant.within c.fill-at.ensures.bound;
-  received = c.send.ensures.received ∙ c.loop-at.invariant.received;
+  received = ap (λ (h : History). h.datagrams) c.send.ensures.received ∙ c.loop-at.invariant.received;
   start = c.packet.ensures.start ∙ c.fill-at.ensures.start ∙ c.loop-at.invariant.start;
   counted = λ k. counted-more _ _ _ _ _ _ c.args.missing c.send.result
       (rw (c.if-packet.ensures.flags refl, c.fill-at.ensures.flags) refl) c.send.ensures.taken

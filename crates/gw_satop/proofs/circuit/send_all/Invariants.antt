@@ -10,13 +10,13 @@ use Rattle.gw_satop.proofs.circuit.send_all.Given as goal
 abbrev pub invariant-loop-at : goal.invariant-loop-at
 invariant-loop-at g l = record {
   rest : length l.sender.held.items < l.sender.start.size;
-  sent : g.P.Peer.sent l.peer ≡ packets_of l.sender.start l.sender.log.flags l.sender.came.octets;
+  sent : l.peer.sent.datagrams ≡ packets_of l.sender.start l.sender.log.flags l.sender.came.octets;
   came : l.sender.came.octets ≡ l.initial.sender.came.octets ++ take l.at l.octets;
   within : l.at ≤ length l.octets;
-  received : g.P.Peer.received l.peer ≡ g.P.Peer.received l.initial.peer;
+  received : l.peer.received.datagrams ≡ l.initial.peer.received.datagrams;
   start : l.sender.start ≡ l.initial.sender.start;
-  counted : CountsSends l.initial.counts l.initial.sender.log.flags (g.P.Peer.taken l.initial.peer)
-      → CountsSends l.counts l.sender.log.flags (g.P.Peer.taken l.peer);
+  counted : CountsSends l.initial.counts l.initial.sender.log.flags l.initial.peer.sent.flags
+      → CountsSends l.counts l.sender.log.flags l.peer.sent.flags;
   plays : (receiver : Receiver) (pace : PlayClock) (received : List (List ℕ)) (went : List ℕ) → l.missing ≡ pace.silent
       → PlaysAll receiver pace l.initial.counts l.initial.sender.log.flags received went
       → PlaysAll receiver pace l.counts l.sender.log.flags received went;

@@ -9,6 +9,5 @@ invariant-loop-turn g l = record {
   some : 0 < length l.room;
   few : length l.room ≤ 2048;
   asked_first : l.turn ≡ false;
-  none : 0 < l._turn → g.I.TrunkInput.has_none l.incoming;
   waited : l._turn ≤ g.I.TrunkInput.waits l.incoming;
 }

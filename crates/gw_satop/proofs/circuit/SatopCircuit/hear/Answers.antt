@@ -14,7 +14,7 @@ invariant_of-self-2 g c = record {
       c.receive-outcome.ensures.given (rw c.now-now.ensures at c.receive-outcome.ensures.pace)
       c.receive-outcome.ensures.timing (c.bits.ensures ∙ rw (c.receive-2.ensures, c.control-control.ensures) refl) k));
   sends = rw c.receive.ensures.sent c.args.self.now.sends;
-  counted = rw c.receive.ensures.taken (∥∥₁_map c.args.self.now.counted
+  counted = rw c.receive.ensures.sent (∥∥₁_map c.args.self.now.counted
       (counted-datagram _ _ c.receive-outcome.result c.control-control.result _ _
       (c.bits.ensures ∙ rw (c.receive-2.ensures) refl)));
 }

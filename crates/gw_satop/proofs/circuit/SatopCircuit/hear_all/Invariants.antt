@@ -9,7 +9,7 @@ invariant-loop-datagram g l = record {
       l.initial.self.pace l.self.pace;
   time : l.self.pace.counted ≡ l.initial.self.pace.counted;
   incoming : l.self.incoming ≡ l.initial.self.incoming;
-  heard : (heard : List (List ℕ)) × (g.P.Peer.received l.self.peer ≡ g.P.Peer.received l.initial.self.peer ++ heard)
+  heard : (heard : List (List ℕ)) × (l.self.peer.received.datagrams ≡ l.initial.self.peer.received.datagrams ++ heard)
       × (length heard ≡ l._datagram);
   grows : length (g.O.TrunkOutput.went l.initial.self.outgoing ++ l.initial.self.left.items)
       ≤ length (g.O.TrunkOutput.went l.self.outgoing ++ l.self.left.items);

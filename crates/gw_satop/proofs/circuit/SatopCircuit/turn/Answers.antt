@@ -1,21 +1,18 @@
 use Rattle.std.proofs.Common.{◌≡◌, ◌≤◌, ◌∙◌, ◌++◌, ℕ, List, length, inl, inr, ap, sym, arith, refl}
-use Rattle.std.proofs.Common.{Result, Ok, Err, IfOk}
 use Rattle.gw_satop.specs.declared.line.Receiver.{Receiver}
 use Rattle.gw_satop.specs.declared.pace.PlayClock.{PlayClock}
+use Rattle.gw_satop.specs.declared.peer.UdpPeer.{UdpPeer}
+use Rattle.gw_udp.specs.Socket.{Received}
 use Rattle.gw_satop.specs.Doing.{HearsAll, PlaysDue}
+use Rattle.gw_satop.proofs.Turning.{anyway}
 use Rattle.gw_satop.proofs.circuit.SatopCircuit.turn.Goals as goal
 
--- What holds anyway holds if a call ended well.
-anyway : {T E P : Type 0} (r : Result T E) → P → IfOk r (λ _. P)
-anyway (Ok x) p = p
-anyway (Err e) p = tt
-
 -- Nothing more was received since all was.
-hears-on : {P : Type 0} (received : P → List (List ℕ)) (has_none : P → Type 0) (old old' new new' : P) → old' ≡ old
-    → received new' ≡ received new → HearsAll received has_none old' new → HearsAll received has_none old new'
-hears-on received has_none old old' new new' first last k = record {
+hears-on : {S : Type 0} {s : _} (receives : Received S) (old old' new new' : UdpPeer S s) → old' ≡ old
+    → new'.received.datagrams ≡ new.received.datagrams → HearsAll receives old' new → HearsAll receives old new'
+hears-on receives old old' new new' first last k = record {
   heard = k.heard;
-  received_are = last ∙ k.received_are ∙ ap (λ p. received p ++ k.heard) first;
+  received_are = last ∙ k.received_are ∙ ap (λ p. p.received.datagrams ++ k.heard) first;
   all = elim k.all [ inl many ↦ inl many | inr none ↦ inr (none.0, none.1, none.2 ∙ sym last) ];
 }
 
@@ -29,9 +26,10 @@ plays-on receiver receiver' pace pace' size size' before before' after after' r 
 ]
 
 pub returns-clause-hears : goal.returns-clause-hears
-returns-clause-hears g c = anyway c.take.result (hears-on g.P.Peer.received g.P.Peer.has_none _ _ _ _
+returns-clause-hears g c = anyway c.take.result (hears-on _ _ _ _ _
     c.advance.ensures.peer (c.take.ensures.received
-    ∙ ap g.P.Peer.received (c.in_ok-play_due.ensures.only.peer ∙ c.listen.ensures.peer)) c.in_ok-hear_all.ensures.hears)
+    ∙ ap (λ p. p.received.datagrams) (c.in_ok-play_due.ensures.only.peer ∙ c.listen.ensures.peer))
+    c.in_ok-hear_all.ensures.hears)
 
 pub returns-clause-plays : goal.returns-clause-plays
 returns-clause-plays g c = anyway c.take.result (plays-on _ _ _ _ _ _ _ _ _ _

@@ -14,7 +14,6 @@ invariant_of-self g c =
         room = λ goes begun. let room = s.within.room goes begun in omega (arith, e.shorter, room);
         prompt = finished s.position _ _ _ _ e.waits e.shorter s.within.prompt;
       };
-      told = s.told;
     }
 
 pub returns-clause-goes : goal.returns-clause-goes

@@ -12,5 +12,4 @@ invariant_of-result g c = record {
     room = λ goes begun. absurd (begun refl);
     prompt = λ e. record { none_held = c.new.ensures; goes = refl; none_discarded = refl };
   };
-  told = λ some. absurd (omega (arith, some));
 }

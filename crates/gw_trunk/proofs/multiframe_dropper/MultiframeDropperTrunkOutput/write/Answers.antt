@@ -12,7 +12,6 @@ invariant_of-self-then-self-gt0 g c =
           (stepped s.position c.pass.new.position _ _ _ c.args.octets.now c.min-most.result c.in-Ok.n _ _ t
           c.in-Ok.ensures.steps fits c.in-Ok.ensures.bound));
       within = c.in-Ok.ensures.within;
-      told = λ some. ∣ c.tell_slow.ensures ∣₁;
     }
 
 pub invariant_of-self-else-self-gt0 : goal.invariant_of-self-else-self-gt0
@@ -24,7 +23,6 @@ invariant_of-self-else-self-gt0 g c =
           (stepped s.position c.pass.new.position _ _ _ c.args.octets.now c.min-most.result c.in-Ok.n _ _ t
           c.in-Ok.ensures.steps fits c.in-Ok.ensures.bound));
       within = c.in-Ok.ensures.within;
-      told = λ some. absurd (omega (arith, some, c.if-self-gt0.false));
     }
 
 pub invariant_of-self-else-before-eq0 : goal.invariant_of-self-else-before-eq0
@@ -36,7 +34,6 @@ invariant_of-self-else-before-eq0 g c =
           (stepped s.position c.pass.new.position _ _ _ c.args.octets.now c.min-most.result c.in-Ok.n _ _ t
           c.in-Ok.ensures.steps fits c.in-Ok.ensures.bound));
       within = c.in-Ok.ensures.within;
-      told = λ some. s.told (omega (arith, c.if-before-eq0.false));
     }
 
 pub invariant_of-self : goal.invariant_of-self
@@ -46,5 +43,4 @@ invariant_of-self g c =
     record {
       thinned = ∥∥₁_map s.thinned (λ t. rw (e.err.0, e.err.1) (waited s.position s.log.octets _ _ _ t e.waits));
       within = e.within;
-      told = λ some. s.told (rw (e.err.0) at some);
     }

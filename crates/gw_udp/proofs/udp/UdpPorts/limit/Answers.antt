@@ -5,7 +5,6 @@ pub invariant_of-self : goal.invariant_of-self
 invariant_of-self g c = record {
   thirty = c.args.self.now.thirty;
   memory = c.args.self.now.memory;
-  bound = c.args.self.now.bound;
   called = c.args.self.now.called;
   few = λ _. ∣ rw (c.limit.ensures, c.of-self.ensures) (none_since _) ∣₁;
 }

@@ -1,8 +1,6 @@
 use Rattle.std.proofs.Common.{◌≡◌, ◌+◌, ◌-◌, ◌≤◌}
 use Rattle.std.specs.Prelude.{vec_len, vec_capacity}
-use Rattle.gw_udp.specs.Inheriting.{IsAt}
-use Rattle.gw_udp.specs.Names.{SystemLooksUp}
-use Rattle.gw_udp.specs.Udp.{EachHears, HasEndpoints, Hears, TakesFrom}
+use Rattle.gw_udp.specs.Udp.{HasEndpoints}
 use Rattle.gw_udp.proofs.udp.UdpPorts.open.Given as goal
 
 -- one place for each circuit so far, with the socket of its own ports
@@ -11,9 +9,5 @@ invariant-loop-number g l = record {
   some : 1 ≤ l.number;
   len : vec_len l.endpoints + 1 ≡ l.number;
   memory : vec_capacity l.endpoints ≡ 30;
-  hears : EachHears (Hears g.S.Socket.watches g.S.Socket.is_joined g.S.Socket.is_open l.readiness.poller)
-      l.endpoints.items (l.number - 1);
-  own : HasEndpoints (TakesFrom (IsAt g.S.Socket.is_bound g.S.Socket.inherits g.S.Socket.lacks l.asked.among)
-      g.S.Socket.is_open l.asked.senders) SystemLooksUp
-      l.asked.host.now l.asked.senders l.ports l.endpoints.items (l.number - 1);
+  own : HasEndpoints l.asked.host.now l.asked.senders l.ports l.endpoints.items (l.number - 1);
 }

@@ -15,7 +15,6 @@ invariant_of-self g c =
     record {
       thirty = c.args.self.now.thirty;
       memory = c.args.self.now.memory;
-      bound = c.args.self.now.bound;
       called = ∥∥₁_map c.args.self.now.called (λ called. rw (c.received.ensures, whole)
           (called_more _ _ _ _ _ _ _ called
           (receive_called _ _ _ c.args.circuit (HasGivenEnough c.args.self.now.given c.args.circuit) _ _

@@ -14,7 +14,6 @@ invariant_of-self g c =
     record {
       thirty = c.args.self.now.thirty;
       memory = c.args.self.now.memory;
-      bound = c.args.self.now.bound;
       called = ∥∥₁_map c.args.self.now.called (λ called. rw (c.sent.ensures, whole)
           (called_more _ _ _ _ _ _ _ called
           (send_called _ _ c.args.circuit _ _ c.args.datagram.now c.send_from-sent.result
