@@ -45,12 +45,13 @@ SCENES = ('dahdi_far.py', 'dahdi_inside.py', 'dahdi_scenes.py', 'dahdi_start.py'
 # What the package has, and where.
 PACKAGE = {
     'dist/system/e1gw-trunk@.service': f'{UNITS}/e1gw-trunk@.service',
+    'dist/system/e1gw-watch@.service': f'{UNITS}/e1gw-watch@.service',
     'dist/system/e1gw-.service.d/10-e1gw.conf': f'{UNITS}/e1gw-.service.d/10-e1gw.conf',
     'dist/system/example.toml': 'etc/e1gw/example.toml', 'dist/system/dscp': 'usr/lib/e1gw/dscp',
     'dist/system/e1gw.sysusers': 'usr/lib/sysusers.d/e1gw.conf', 'driver/launch': 'usr/lib/e1gw/launch',
     'dist/system/e1gw.rules': 'usr/lib/udev/rules.d/61-e1gw.rules',
     'docs/START.md': 'e1gw/docs/START.md', 'docs/SYMPTOMS.md': 'e1gw/docs/SYMPTOMS.md'}
-COMMANDS = 'e1gw-config', 'e1gw-ctl', 'e1gw-trunk'
+COMMANDS = 'e1gw-config', 'e1gw-ctl', 'e1gw-trunk', 'e1gw-watch'
 
 
 def entry(name: str, mode: int, octets: bytes) -> bytes:

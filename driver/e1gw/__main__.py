@@ -12,15 +12,10 @@ from typing import Any, NoReturn
 COMMANDS = {
     'call': 'tools.call', 'config': 'config', 'ctl': 'ctl', 'exchange': 'tools.exchange',
     'pcap': 'tools.pcap', 'picture': 'picture.main', 'records': 'tools.records', 'tie': 'tie.main',
-    'trunk': 'service.service'}
-# Those that are not offered yet: they have no page, and no program.
-NOT_OFFERED = {'hold': 'holder.main', 'watch': 'watcher.main'}
-# The service catches these signals. As it begins they wait until it knows what the service before it has left: they
-# would end it, in systemd's view in order, and nobody would look after a program that goes on. Where nothing is left
-# the ENDS end it at once.
-HOLDER, SERVICE = 'hold', 'trunk'
+    'trunk': 'holder.main', 'watch': 'watcher.main'}
+# e1gw-trunk catches these signals. As it begins they wait until it does: they would end it, in systemd's view in order.
+HOLDER = 'trunk'
 CAUGHT = (signal.SIGHUP, signal.SIGUSR1, signal.SIGUSR2, signal.SIGTERM, signal.SIGINT)
-ENDS = CAUGHT[-2:]
 
 
 def refuse(what: str) -> NoReturn:
@@ -31,12 +26,9 @@ def refuse(what: str) -> NoReturn:
 
 def load(name: str) -> ModuleType:
     """The module of a command."""
-    if name == SERVICE:
-        for number in ENDS:
-            signal.signal(number, lambda *_: os._exit(0))
-    if name in (HOLDER, SERVICE):
+    if name == HOLDER:
         signal.pthread_sigmask(signal.SIG_BLOCK, CAUGHT)
-    return importlib.import_module(f'e1gw.{(COMMANDS | NOT_OFFERED)[name]}')
+    return importlib.import_module(f'e1gw.{COMMANDS[name]}')
 
 
 def complete() -> None:
@@ -63,7 +55,7 @@ def start(name: str) -> NoReturn:
 
 def named(path: str) -> str:
     """The command that a program is named by, or else one of the links that the path leads through."""
-    while (name := os.path.basename(path).removeprefix('e1gw-')) not in COMMANDS | NOT_OFFERED:
+    while (name := os.path.basename(path).removeprefix('e1gw-')) not in COMMANDS:
         if not os.path.islink(path):
             refuse(f'{path}: no command of e1gw has this name')
         path = os.path.join(os.path.dirname(path), os.readlink(path))
@@ -80,7 +72,7 @@ def main() -> None:
     name = sys.argv[1] if sys.argv[1:] else '--help'
     if name in ('-h', '--help'):
         print((__doc__ or '').format(names=', '.join(COMMANDS)))
-    elif name in COMMANDS | NOT_OFFERED:
+    elif name in COMMANDS:
         sys.argv[:2] = [f'e1gw-{name}']
         start(name)
     else:

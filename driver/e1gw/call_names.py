@@ -1,7 +1,7 @@
 """How often each line was seized, by which calls are named: the next program, and the next service, go on counting.
 
 A program counts seizures since it has begun, its session. A note in memory says what has to be
-added to them, so that a service that is started again counts as the one before it did. It also says how the lines stood
+added to them, so that a watcher that is started again counts as the one before it did. It also says how the lines stood
 last: of another state, behind the death of both, that is all that is known.
 """
 from __future__ import annotations

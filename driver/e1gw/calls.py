@@ -159,7 +159,7 @@ class CallLog:
         for n, line in self._lines.items():
             call = self._calls.get(n)
             if call and (line.state not in IN_CALL or 0 < call.number < line.seizures):
-                self._end(call, self._unwatched(call))          # (of the service before this one)
+                self._end(call, self._unwatched(call))          # (of the watcher before this one)
             elif call:
                 call.number = call.number or line.seizures
             if line.state in IN_CALL and n not in self._calls:

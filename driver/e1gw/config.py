@@ -50,8 +50,9 @@ peer_host = "{peer}"
 peer_port = {peer_port}
 {numbers}'''
 NUMBERS = 'ssrc = {}\nsequence = {}\n'
-OPTIONS = '''# Options of e1gw-trunk(1) for the trunk {name}.
-TRUNK="{device} --http 127.0.0.1:{http} --session {folder} --keep 1h --calls {folder}/calls.csv --json {folder}/events"
+OPTIONS = '''# Options of e1gw-trunk(1) and of e1gw-watch(1) for the trunk {name}.
+TRUNK="{device}"
+WATCH="--http 127.0.0.1:{http} --session {folder} --keep 1h --calls {folder}/calls.csv --json {folder}/events"
 '''
 
 

@@ -8,7 +8,6 @@ import math
 import re
 import socket
 import tomllib
-from contextlib import suppress
 from dataclasses import dataclass
 from typing import Any, Callable, Iterator
 
@@ -292,13 +291,3 @@ def config_words(path: str) -> str | None:
     """Why a configuration is refused, in words; None if nothing is found."""
     found = refusal_of(path)
     return found[1] if found else None
-
-
-def gateway_words(line: str, path: str) -> str | None:
-    """The words for a line with which `e1gw serve` ended at its start; None for another line."""
-    if not (found := re.fullmatch(r'socket (\d+)', line)):
-        return None
-    why = None
-    with suppress(ConfigFault, OSError):
-        why = dict(socket_faults(check(read_octets(path)))).get(int(found[1]))
-    return why or 'its port is free now, or its peer cannot be reached'

@@ -9,7 +9,6 @@ from .session import CIRCUITS, DatagramRefusal
 
 REASONS = (*DatagramRefusal,)       # why datagrams are refused, in the order of a line `counts` (e1gw-tell(5))
 NONE_REFUSED = (0,) * len(REASONS)
-UNWATCHED = 'Unwatched'             # why datagrams were refused of which nobody was told
 SAMPLES = 8                         # in a millisecond
 
 
@@ -40,7 +39,7 @@ class CircuitCounts:
     sent: int = 0
     admitted: int = 0
     refused: int = 0            # for any reason, since the gateway was new
-    unwatched: int = 0          # of these, those of which nobody was told why
+    settled: int = 0            # .. when all was of one moment last
     before: ToldCounts = ToldCounts()       # of the sessions before this one
     told: ToldCounts = ToldCounts()         # of this session
 
@@ -50,16 +49,15 @@ class CircuitCounts:
         return self.told.behind(self.before)
 
     def settle(self) -> None:
-        """All of this is of one moment: what else was refused, nobody was told."""
-        if self.refused < self.unwatched + sum(self.stream.refused):
+        """All of this is of one moment."""
+        if self.refused < max(self.settled, sum(self.stream.refused)):
             self.before = replace(self.before, refused=NONE_REFUSED)    # (they were of another gateway)
-        self.unwatched = self.refused - sum(self.stream.refused)
+        self.settled = self.refused
 
     def counts(self) -> dict[str, int]:
         """How many were sent, admitted and refused, by the reason."""
-        refused = {reason.label: count for reason, count in zip(REASONS, self.stream.refused)}
-        found = {word: count for word, count in (refused | {UNWATCHED: self.unwatched}).items() if count}
-        return {'sent': self.sent, 'admitted': self.admitted, **found}
+        refused = {reason.label: count for reason, count in zip(REASONS, self.stream.refused) if count}
+        return {'sent': self.sent, 'admitted': self.admitted, **refused}
 
 
 class DatagramCounts:

@@ -1,8 +1,8 @@
 """Gives commands to trunks in service: e1gw-ctl PATH COMMAND.., e1gw-ctl --all COMMAND.., e1gw-ctl
 
-PATH is the socket of --control of e1gw-trunk, or the name of a trunk, whose socket is /run/e1gw/NAME/control.
-COMMAND is one of e1gw-trunk(1): seize N, clear N, answer N, clear-back N, codec N CODEC TYPE, status, status N, status
-json, events, on-loss, role, promote, demote, move, reload, quit, help. N may be several circuits: seize 1-4,7.
+PATH is the socket of --control of e1gw-watch, or the name of a trunk, whose socket is /run/e1gw/NAME/control.
+COMMAND is one of e1gw-watch(1): seize N, clear N, answer N, clear-back N, codec N CODEC TYPE, status, status N, status
+json, events, role, promote, demote, move, reload, quit, help. N may be several circuits: seize 1-4,7.
 
 block N takes circuits out of service once their calls have ended, or --now; unblock N takes that back. drain does it
 for all, and waits until no call is left, or for --within MINUTES. calls lists those of the file of --calls that --last,
@@ -33,7 +33,7 @@ from .session_clock import second_of
 
 ASKING = ('status', 'events', 'help', 'metrics', 'role')
 SEVERAL = ('seize', 'clear', 'answer', 'clear-back', 'block', 'unblock', 'codec')
-TAKEN = {'block': 'drain', 'unblock': 'undrain'}        # what an operator blocks is kept (e1gw-trunk(1))
+TAKEN = {'block': 'drain', 'unblock': 'undrain'}        # what an operator blocks is kept (e1gw-watch(1))
 
 # The commands that have these options.
 OPTIONS = {'last': ('calls',), 'circuit': ('calls',), 'since': ('calls', 'outages'), 'until': ('outages',),
@@ -50,7 +50,7 @@ def unit_words(path: str, fault: OSError) -> str:
     folder, name = os.path.split(os.path.dirname(path))
     if folder != SOCKETS or not isinstance(fault, (FileNotFoundError, ConnectionRefusedError)):
         return ''
-    return f' (systemctl status e1gw-trunk@{name}; e1gw-ctl alone lists the trunks)'
+    return f' (systemctl status e1gw-watch@{name} e1gw-trunk@{name}; e1gw-ctl alone lists the trunks)'
 
 
 def circuits_of(word: str) -> list[str]:
@@ -165,14 +165,12 @@ def next_words(parsed_args: argparse.Namespace, **_: object) -> list[str]:
         return [name for name, _ in trunks_here()]
     match words[not parsed_args.all:]:
         case []:
-            return [*SEVERAL, 'drain', 'status', 'calls', 'outages', 'events', 'on-loss', 'role', 'promote', 'demote',
+            return [*SEVERAL, 'drain', 'status', 'calls', 'outages', 'events', 'role', 'promote', 'demote',
                     'move', 'reload', 'quit', 'help']
         case ['status']:
             return ['json', *circuits]
         case ['reload']:
             return ['force']
-        case ['on-loss']:
-            return ['keep', 'clear', 'block']
         case [word] if word in SEVERAL:
             return circuits
         case ['codec', _]:

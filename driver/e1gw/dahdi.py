@@ -16,6 +16,7 @@ from dataclasses import dataclass
 
 CHANNELS = 'dahdi_channels'         # what the driver calls its devices
 DEVICES, NODES = '/sys/bus/dahdi_channels/devices', '/dev/dahdi/chan'      # of all channels
+CONTROL = '/dev/dahdi/ctl'          # the driver's device, which tells of each span and takes no channel
 PARAMETERS, BUFFERS = struct.Struct('=12i40s11iI'), struct.Struct('=6i')
 SPAN = struct.Struct('=i20s40s7i5I7i40s40s40s40s2i6s')
 NUMBER = struct.Struct('=i')
@@ -59,15 +60,6 @@ class Alarm(enum.IntFlag):
     def names(self) -> list[str]:
         """As DAHDI's own programs show them."""
         return [(each.name or '').replace('_', ' ') for each in Alarm if each in self]
-
-
-class CardEvent(enum.IntEnum):
-    """Events of a channel, of those that a clear one has."""
-
-    NONE = 0
-    ALARM = 4
-    NO_ALARM = 5
-    REMOVED = 20
 
 
 @dataclass(frozen=True)
@@ -175,6 +167,12 @@ def is_channel(file: int) -> bool:
     with suppress(OSError):
         return os.path.basename(os.readlink(f'/sys/dev/char/{number}/subsystem')) == CHANNELS
     return False
+
+
+def span_of(file: int, number: int) -> SpanFacts:
+    """A span, as CONTROL tells it, of which this is a descriptor. OSError if there is none of this number."""
+    asked = NUMBER.pack(number).ljust(SPAN.size, b'\0')
+    return span_facts(fcntl.ioctl(file, Request.SPAN_STATUS, asked))
 
 
 class DahdiChannel:

@@ -10,6 +10,7 @@ INTERFACE = 1               # of this file, and of the words at FOLDER/hold
 MEMORY = '/dev/shm'         # where the folder of a trunk is by default
 SAVED = 'begins with what was saved'   # `why` of a log that begins with a state of --state
 ACTIVE, STANDBY = 'active', 'standby'
+STARTED_BY = 'E1GW_HOLDER'          # in the environment of an e1gw-watch that a holder has started: its number
 
 
 @dataclass(frozen=True)
@@ -17,7 +18,8 @@ class HolderState:
     """`program` is the number of the process that carries the trunk, 0 without one, and `started` when that was started
     (field 22 of /proc/PID/stat); it goes on from its log for the reason `why`, `since` that time of day, and if
     `octets_lost` the one before it may have had some in hand. The line is `open` since `opened`, or has a `fault`.
-    `lacking` are circuits without a port. A `trial` is of a version that may go back. `words` are options of each
+    `span` is that of a DAHDI card, or 0. `lacking` are circuits without a port. A `trial` is of a version that may go
+    back. `words` are options of each
     program, and `state` is the file of --state."""
 
     interface: int
@@ -31,6 +33,7 @@ class HolderState:
     open: bool
     opened: float
     fault: str
+    span: int
     lacking: tuple[int, ...]
     program_version: str
     senders: str
@@ -58,7 +61,7 @@ def state_in(octets: bytes) -> HolderState:
 
 
 def other_interface(number: object) -> HolderState:
-    return HolderState(number if isinstance(number, int) else 0, '', 0, 0, 0, 0.0, '', False, False, 0.0, '', (), '',
+    return HolderState(number if isinstance(number, int) else 0, '', 0, 0, 0, 0.0, '', False, False, 0.0, '', 0, (), '',
                        '', False, ACTIVE, '', (), '')
 
 
@@ -84,6 +87,11 @@ class TrunkPlaces:
     @property
     def log(self) -> str:
         return self._path('log')
+
+    @property
+    def fed(self) -> str:
+        """The log of the trunk as it is known here while the other machine has it."""
+        return self._path('fed')
 
     @property
     def control(self) -> str:
@@ -117,9 +125,3 @@ class TrunkPlaces:
     @property
     def watch_lock(self) -> str:
         return self._path('watch.lock')
-
-
-def folder_of(name: str, within: str | None) -> str:
-    """The folder of a trunk, the same for each start, and for who watches it."""
-    within = within or os.environ.get('RUNTIME_DIRECTORY', '').partition(':')[0] or MEMORY
-    return os.path.join(within, f'{name}-{os.getuid()}')

@@ -3,6 +3,7 @@ from __future__ import annotations
 
 import fcntl
 import os
+from contextlib import suppress
 
 
 class InUse(Exception):
@@ -22,8 +23,9 @@ def hold(path: str) -> int:
         if is_at(file, path):
             break
         os.close(file)                      # (one that ended has removed it meanwhile)
-    os.ftruncate(file, 0)
-    os.pwrite(file, str(os.getpid()).encode(), 0)
+    with suppress(OSError):                 # (without room nobody knows who has it)
+        os.ftruncate(file, 0)
+        os.pwrite(file, str(os.getpid()).encode(), 0)
     return file
 
 

@@ -2,7 +2,6 @@
 Whoever reads them is never waited for, and knows whether what he has read was written over meanwhile."""
 from __future__ import annotations
 
-import fcntl
 import functools
 import os
 import struct
@@ -93,7 +92,7 @@ class LogFiles:
 
     @classmethod
     def held(cls, files: Mapping[str, int]) -> LogFiles:
-        """Those that a service before this one has held, by their names. KeyError if one of them is not there."""
+        """Those that a watcher before this one has held, by their names. KeyError if one of them is not there."""
         its = cls.__new__(cls)
         its._files = {name: files[HELD + name] for name in (*STATES, *RECORDS)}
         return its
@@ -310,72 +309,8 @@ class LogWriter:
             os.close(self._files.popitem()[1])
 
 
-# ---- who holds it ----
-
-class FolderHold:
-    """Holds the folder of a trunk for one service, until that ends or dies."""
-
-    def __init__(self) -> None:
-        self._file = -1
-
-    def take(self, folder: str) -> int:
-        """Holds this folder, also if it was made anew. The number of the process that has it, -1 if that is not seen; 0
-        if it is this one."""
-        file = os.open(folder, os.O_RDONLY | os.O_DIRECTORY | os.O_CLOEXEC)
-        if self._file >= 0 and os.path.sameopenfile(file, self._file):
-            os.close(file)
-            return 0
-        try:
-            fcntl.flock(file, fcntl.LOCK_EX | fcntl.LOCK_NB)
-        except BlockingIOError:
-            pid = locked_by(file) or -1
-            os.close(file)
-            return pid
-        self.close()
-        self._file = file
-        return 0
-
-    def close(self) -> None:
-        if self._file >= 0:
-            os.close(self._file)
-            self._file = -1
-
-
-def locked_by(file: int) -> int:
-    """The number of the process that has locked a file (flock(2)); 0 if it is not seen."""
-    about = os.fstat(file)
-    place = f'{os.major(about.st_dev):02x}:{os.minor(about.st_dev):02x}:{about.st_ino}'
-    with suppress(OSError), open('/proc/locks', encoding='ascii') as locks:
-        for _, kind, _, _, pid, its, *_ in map(str.split, locks):       # (of who waits the second word is ->)
-            if (kind, its) == ('FLOCK', place):
-                return int(pid)
-    return 0
-
-
-def holder_of(folder: str) -> int:
-    """The number of the process that holds the lock of a log, -1 if that is not known; 0 if nobody does. (To be asked
-    by nobody but who starts programs: one that starts in this moment finds the lock held.)"""
-    try:
-        file = os.open(os.path.join(folder, LOCK), os.O_RDONLY | os.O_CLOEXEC)
-    except OSError:
-        return 0
-    try:
-        fcntl.flock(file, fcntl.LOCK_SH | fcntl.LOCK_NB)
-        return 0
-    except BlockingIOError:
-        text = os.pread(file, 32, 0).partition(b'\n')[0]       # (of the program that had it last)
-        return locked_by(file) or (int(text) if text.isdigit() else -1)
-    finally:
-        os.close(file)
-
-
 def logged_by(folder: str) -> int:
     """The number of the program that has a log, or had it last; 0 if that is not known. (Nothing is locked here.)"""
     with suppress(OSError, ValueError), open(os.path.join(folder, LOCK), 'rb') as file:
         return int(file.readline(32))
     return 0
-
-
-def process_words(pid: int) -> str:
-    """Who holds a lock."""
-    return f'process {pid}' if pid > 0 else 'another process'

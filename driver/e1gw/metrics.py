@@ -4,7 +4,7 @@ from __future__ import annotations
 import time
 from typing import Any, Iterable, Mapping
 
-from .dahdi import COUNTS, Alarm, Blocks
+from .dahdi import COUNTS, Alarm
 from .events import LOSSES, REMOTE
 from .lines import State, circuit_words
 
@@ -63,8 +63,6 @@ def _of_trunk(status: Status) -> list[Family]:
          [({'alignment': what}, n) for what, n in status['losses'].items()]),
         ('e1gw_trunk_stalled', '1 while no octets come.', clock['stalled']),
         ('e1gw_trunk_stalls_total', 'Times without octets.', clock['stalls'])]
-    if 'program' in status:
-        found.append(('e1gw_connected', '1 where there is a connection.', [({'to': 'program'}, status['program'])]))
     found.append(('e1gw_trunk_octets_total', 'Octets of the trunk.', status['octets']))
     return found + _of_pair(status) + _of_flow(status, clock)
 
@@ -105,9 +103,7 @@ def crc4_families(status: Status) -> list[Family]:
         ('e1gw_crc4_errored_total', 'Errored submultiframes that this end received, and those that the other end '
          'reports by E bits.',
          [({'end': 'this'}, crc4['errored']), ({'end': 'other'}, crc4['far_end_errored'])]),
-        ('e1gw_crc4_alignment_losses_total', 'How often CRC multiframe alignment was lost.', crc4['multiframes_lost']),
-        ('e1gw_crc4_given_up_total', 'Losses of alignment for 915 of 1000 errored submultiframes (G.706, '
-         '4.3.2).', crc4['given_up'])]
+        ('e1gw_crc4_alignment_losses_total', 'How often CRC multiframe alignment was lost.', crc4['multiframes_lost'])]
 
 
 def _of_circuits(status: Status) -> list[Family]:
@@ -126,7 +122,6 @@ def _of_circuits(status: Status) -> list[Family]:
          [({**labels, 'direction': way[what]}, n) for labels, what, n in counts if what in way]),
         ('e1gw_rtp_discarded_total', 'Packets that were received and discarded, by cause.',
          [({**labels, 'cause': what}, n) for labels, what, n in counts if what not in way]),
-        ('e1gw_counts_stale', '1 where the counts of packets are not those of now.', status['stale']),
         ('e1gw_socket_dropped_total', 'Packets for which the kernel had no room.',
          [(labels, row['socket']['dropped']) for labels, row in rows if row['socket']])]
 
@@ -215,7 +210,7 @@ def _card_line(status: Status) -> list[str]:
         return []
     alarms = ', '.join(name for each in Alarm if its[str(each.name).lower()] for name in each.names())
     counts = ''.join(f', {name.replace("_", " ")} {its[name]}' for name in COUNTS if its.get(name))
-    return [f'card: span {its["span"]}, {alarms or "no alarm"}{counts}; {Blocks(its["block"], its["buffers"]).words()}']
+    return [f'card: span {its["span"]}, {alarms or "no alarm"}{counts}']
 
 
 def _crc4_line(status: Status) -> list[str]:

@@ -1,4 +1,4 @@
-"""Outages of a trunk by its events (--json of e1gw-trunk(1)): when, and which calls were up."""
+"""Outages of a trunk by its events (--json of e1gw-watch(1)): when, and which calls were up."""
 from __future__ import annotations
 
 import json

@@ -1,18 +1,14 @@
 """An emulated circuit: a trunk as SAToP packets over UDP (RFC 4553). `e1gw satop` receives and sends them, plays them
-at their rate and aligns their octets. These are its options, and what it says on standard error, a line at most once a
-second: `satop received=1000 sent=1000 ..`. These numbers are the status of the transport."""
+at their rate and aligns their octets. These are its two ends, and what it says on standard error, a line at most once
+a second: `satop received=1000 sent=1000 ..`. These numbers are the status of the transport."""
 from __future__ import annotations
 
-import argparse
 import socket
 from contextlib import suppress
 from typing import Sequence
 
-from .faults import number
-from .session import FRAME
 from .trunks import host_and_port
 
-SIZES = range(FRAME, 1280 + 1, FRAME)
 FIRST = 'satop '            # how a line of counts begins
 # What is reported: the name in the status, the count that grows, and the words. In silence the program plays by its own
 # clock and counts each tick; bits L and R are those of the packets that come (RFC 4553, 4.3).
@@ -48,35 +44,6 @@ def ends_of(text: str) -> tuple[tuple[str, int], tuple[str, int]]:
     if not comma:
         raise ValueError(f'{text} is not LOCAL:PORT,PEER:PORT')
     return host_and_port(local), host_and_port(peer)
-
-
-def size(text: str) -> int:
-    if int(text) not in SIZES:
-        raise argparse.ArgumentTypeError('whole frames: 32 to 1280 octets, a multiple of 32')
-    return int(text)
-
-
-def add_arguments(parser: argparse.ArgumentParser) -> None:
-    """The options of an emulated circuit, besides --satop with its two ends; both ends agree on size and RTP header."""
-    group = parser.add_argument_group('SAToP (RFC 4553)')
-    group.add_argument('--satop-size', type=size, default=256, metavar='OCTETS',
-                       help='octets of the trunk in a packet, a multiple of 32 [default: 256, 1 ms]')
-    group.add_argument('--satop-jitter', type=number(0, 500), default=4, metavar='PACKETS',
-                       help='depth of the jitter buffer in packets [default: 4]')
-    group.add_argument('--satop-rtp', type=number(0, 127), metavar='TYPE',
-                       help='adds an RTP header with this payload type')
-    group.add_argument('--satop-fill', choices=('again', 'ones'), default='again',
-                       help='what replaces a lost packet: the octets of the multiframe before, or ones '
-                       '[default: again]')
-    group.add_argument('--satop-clock', choices=('packets', 'own'), default='packets',
-                       help='the clock: the received packets, or this machine [default: packets]')
-
-
-def words_of(asked: argparse.Namespace) -> list[str]:
-    """The options of `e1gw satop`."""
-    values = {'size': asked.satop_size, 'jitter': asked.satop_jitter, 'rtp': asked.satop_rtp, 'fill': asked.satop_fill,
-              'clock': asked.satop_clock}
-    return [word for name, value in values.items() if value is not None for word in (f'--{name}', str(value))]
 
 
 def counts_of(line: str) -> dict[str, int] | None:

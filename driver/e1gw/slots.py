@@ -56,5 +56,5 @@ class Slots:
         return SlotsNote(self.silent, self.lost, self.moved, self._delay)
 
     def take_up(self, note: SlotsNote) -> None:
-        """What the service before this one has noted."""
+        """What the watcher before this one has noted."""
         self.silent, self.lost, self.moved, self._delay = note.silent, note.lost, note.moved, note.delay

@@ -1,12 +1,9 @@
 """What the kernel tells of the UDP sockets of circuits."""
 from __future__ import annotations
 
-import sys
-from ipaddress import ip_address
 from typing import Any, Iterable, Iterator, Mapping
 
 from .lines import Line
-from .trunks import host_and_port
 
 TABLES = ('/proc/self/net/udp', '/proc/self/net/udp6')
 PIECE = 1 << 16
@@ -34,14 +31,6 @@ def sockets_of(lines: Iterable[Line]) -> Sockets:
         if circuit:
             found[circuit] = {'waiting': int(words[4].partition(':')[2], 16), 'dropped': int(words[-1])}
     return found
-
-
-def has_socket(place: str) -> bool:
-    """Whether a socket has this ADDRESS:PORT."""
-    host, port = host_and_port(place)
-    octets = ip_address(host).packed
-    address = ''.join(f'{int.from_bytes(octets[at:at + 4], sys.byteorder):08X}' for at in range(0, len(octets), 4))
-    return any(words[1] == f'{address}:{port:04X}' for words in _rows())
 
 
 def with_sockets(status: Mapping[str, Any], sockets: Sockets) -> dict[str, Any]:

@@ -68,12 +68,13 @@ def open_to_append(path: str, waits: bool = True) -> int:
 
 
 def hold_descriptors() -> None:
-    """Opens /dev/null as each of the descriptors 0 to 2 that is closed, so that nothing else becomes one of them."""
+    """Opens /dev/null as each of the descriptors 0 to 2 that is closed, also for what this process starts, so that
+    nothing else becomes one of them."""
     for file in range(3):
         try:
             os.fstat(file)
         except OSError:
-            os.open(os.devnull, os.O_RDWR)
+            os.set_inheritable(os.open(os.devnull, os.O_RDWR), True)
     for name, file, mode in (('stdin', 0, 'r'), ('stdout', 1, 'w'), ('stderr', 2, 'w')):
         if getattr(sys, name) is None:
             setattr(sys, name, open(file, mode, closefd=False))     # noqa: SIM115

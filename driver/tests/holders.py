@@ -13,7 +13,7 @@ from . import limits, support
 from .keepers import KeeperCase
 from .manager import Manager
 from .support import SECONDS
-from e1gw.holder_state import HolderState, TrunkPlaces, state_in
+from e1gw.holder_state import HolderState, state_in
 
 LONG = {f'holder.{name}': limits.LONG for name in (
     'starting.START', 'starting.RELOADED', 'starting.OLD', 'starting.LEFT', 'ending.GRACE', 'job.SECONDS',
@@ -29,22 +29,12 @@ class HolderCase(KeeperCase):
         super().setUp()
         self.manager = Manager(self.path('notify'))
         self.addCleanup(self.manager.close)
-        self.places = TrunkPlaces(os.path.join(self.memory, f'trunk-{os.getuid()}'))
-        self.control = self.places.control
         self.options = ['--config', self.config, '--folder', self.memory, '--program', support.program(), '--reopen',
-                        '--watch', 'no', *(word.replace('@', self.folder) for word in self.line_options)]
-        self.within: dict[str, Any] = {}        # type: ignore[assignment]
-        self.addCleanup(self.end_all)
-
-    def end_all(self) -> None:
-        """Ends what a failed test leaves. (The program ends with its holder.)"""
-        for pid in [self.keeper.pid] if hasattr(self, 'keeper') else []:
-            if self.keeper.poll() is None:
-                os.kill(pid, signal.SIGKILL)
-                self.keeper.wait()
+                        '--alone', *(word.replace('@', self.folder) for word in self.line_options)]
+        self.within: dict[str, Any] = {}
 
     def words(self) -> list[str]:
-        return [sys.executable, '-B', support.launcher('hold'), *self.options]
+        return [sys.executable, '-B', support.launcher('trunk'), *self.options]
 
     def starts_holder(self, is_by_hand: bool = False) -> None:
         """Starts a holder, by hand or by systemd with what that keeps."""
@@ -55,6 +45,7 @@ class HolderCase(KeeperCase):
                 self.told_from = len(self.told())
                 self.keeper = subprocess.Popen(self.words(), stderr=told, stdin=subprocess.DEVNULL) if is_by_hand else \
                     self.manager.starts(self.words(), told.fileno())
+            self.addCleanup(self._end)
         finally:
             for name in around:
                 del os.environ[name]
@@ -94,6 +85,7 @@ class HolderCase(KeeperCase):
 
     def asking(self, words: str) -> socket.socket:
         """A connection at which a word was said."""
+        support.until(lambda: os.path.exists(self.places.hold))     # (a folder is made again before it is there)
         line = support.connected(self.places.hold)
         line.sendall(f'{words}\n'.encode())
         return line
@@ -104,6 +96,11 @@ class HolderCase(KeeperCase):
         os.kill(self.keeper.pid, number)
         self.keeper.wait(SECONDS)
 
+    def dies(self, number: int = signal.SIGKILL) -> None:
+        """The program is sent a signal when it has answered all, and another one goes on."""
+        os.kill(self.program, number)
+        self.goes_on_all()
+
     def goes_on_all(self) -> None:
         """Another program goes on with all calls, and octets flow."""
         self.goes_on()
@@ -111,9 +108,7 @@ class HolderCase(KeeperCase):
         self.assertEqual(self.device.exchange.signals, self.up())
 
     def ends(self) -> None:
-        """It ends, and leaves nothing."""
-        self.keeper.terminate()
-        self.assertEqual(self.keeper.wait(SECONDS), 0, self.told())
-        self.assertEqual(os.listdir(self.memory), [])
+        """It ends, and leaves nothing, nor at systemd."""
+        super().ends()
         self.manager.take_all()
         self.assertEqual(self.manager.files, {})

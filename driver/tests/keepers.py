@@ -1,46 +1,34 @@
-"""A trunk in service with thirty calls, whose program or service is killed, stopped or replaced. The next service goes
-on with the program that is there, or its state.
+"""A trunk with thirty calls, whose program is killed or stopped, and another one goes on.
 
-It goes in lock step, in records of one multiframe: the exchange waits for what comes back, or for the service to say
+It goes in lock step, in records of one multiframe: the exchange waits for what comes back, or for e1gw-trunk to say
 that another program goes on. What it hears is what one uncut replay of all records gives."""
 from __future__ import annotations
 
 import contextlib
-import glob
-import json
 import os
-import pkgutil
 import random
 import re
-import signal
 import socket
 import subprocess
-import time
-from typing import Any, Callable
+from typing import Any
 
-from . import limits, support
-from .manager import Manager
-from .support import SECONDS, octets_in
-from .world import trunk_command, words_of
+from . import support
+from .support import SECONDS
+from .world import trunk_command
 from e1gw.exchange import ACKNOWLEDGED, ANSWERED, SEIZED
-from e1gw.log_folder import HELD, RECORDS, STATES
-from e1gw import watcher
-from e1gw.service.note import ServiceNote, note_in
-from e1gw.service.sockets import name_of
-from e1gw.watcher.note import NoteFiles
+from e1gw.holder_state import TrunkPlaces
+from e1gw.log_folder import LogFiles
 from e1gw.session import (FRAME, MULTIFRAME, Codec, Command, Kind, Packet, codec_record, command_record, packet_of,
                           records_in, trunk_record)
 from e1gw.testing.ports import free_ports
-from e1gw.testing.service import ask
 
-LOG = {HELD + name for name in (*STATES, *RECORDS)}     # the names of its descriptors at systemd
 NO_EFFECT = codec_record(1, Codec.G726_16, 1)    # no payload type of the codec: it is refused
 CIRCUITS = range(1, 31)
 GOES_ON = re.compile(r'program (\d+) (?:goes on|carries)(.*)')
 
 
 class KeeperDevice:
-    """A Unix socket that the service opens as its trunk, and the exchange at the other end of it."""
+    """A Unix socket that e1gw-trunk opens as its trunk, and the exchange at the other end of it."""
 
     def __init__(self, folder: str) -> None:
         self.path = os.path.join(folder, 'card')
@@ -98,7 +86,7 @@ class RtpPeers:
 
 
 class KeeperCase(support.FolderCase):
-    """A service with a device, thirty calls, and what was given and heard."""
+    """A trunk with a device, thirty calls, and what was given and heard. `control` is the program's socket."""
 
     def setUp(self) -> None:
         support.program()
@@ -107,47 +95,42 @@ class KeeperCase(support.FolderCase):
         self.device, self.peers = KeeperDevice(self.folder), RtpPeers()
         self.addCleanup(self.device.close)
         self.addCleanup(self.peers.socket.close)
-        self.config, self.control = self.write('trunk.toml', self.peers.config()), 'control'
+        self.config = self.write('trunk.toml', self.peers.config())
         self.given: list[bytes] = []            # what the gateway was given, in the order in which it took it
         self.unknown = 0                        # how many records a killed program had in hand, which nobody knows of
         self.heard: list[bytes | None] = []     # the answer to each record of the trunk, or None where it is lost
-        self.told_from = self.first = 0         # what was heard before the service of now counted octets
+        self.told_from = 0                      # behind what was waited for
         self.program = 0
         self.speech_to, self.now, self._spoken = '', 0, -1  # where peers speak, by the trunk's time: 2 ms, and packets
         memory = support.in_memory()
         self.addCleanup(memory.cleanup)
         self.memory = memory.name
-        self.command = trunk_command('--config', self.config, '--unix', self.device.path, '--program-control',
-                                   self.path('control'), '--folder', self.memory)
+        self.places = TrunkPlaces(os.path.join(self.memory, f'trunk-{os.getuid()}'))
+        self.control = self.places.control
 
     def starts(self, *options: str, **around: str) -> None:
-        """Starts a service, which opens the device."""
+        """Starts e1gw-trunk by hand, which opens the device."""
+        words = trunk_command('--config', self.config, '--unix', self.device.path, '--folder', self.memory, *options)
         with open(self.path('told'), 'ab') as told:
-            self.keeper = subprocess.Popen([*self.command, *options], stderr=told, stdin=subprocess.DEVNULL,
+            self.keeper = subprocess.Popen(words, stderr=told, stdin=subprocess.DEVNULL,
                                            env={**os.environ, **around})
         self.addCleanup(self._end)
         self.device.accept()
         self.goes_on()
 
     def _end(self) -> None:
-        """Ends what a failed test leaves."""
+        """Ends what a failed test leaves. (The program ends with e1gw-trunk.)"""
         if self.keeper.poll() is None:
-            self.keeper.terminate()
-            try:
-                self.keeper.wait(5)
-            except subprocess.TimeoutExpired:
-                self.keeper.kill()
-                self.keeper.wait()
-                with contextlib.suppress(ProcessLookupError):
-                    os.kill(self.program, signal.SIGKILL)
+            self.keeper.kill()
+            self.keeper.wait()
 
-    # ---- what the service says ----
+    # ---- what is said ----
 
     def told(self) -> str:
         return support.text_of(self.path('told'))
 
     def awaits(self, pattern: str | re.Pattern[str]) -> re.Match[str]:
-        """What the service says next that is so."""
+        """What e1gw-trunk says next that is so."""
         found = support.said_by(self.keeper, self.path('told'), pattern, self.told_from)
         self.told_from = found.end()
         return found
@@ -186,9 +169,8 @@ class KeeperCase(support.FolderCase):
             self.peers.take()
 
     def client(self) -> socket.socket:
-        path = self.path(self.control)
-        support.until(lambda: os.path.exists(path))     # (the program may answer octets before)
-        return support.connected(path)
+        support.until(lambda: os.path.exists(self.control))     # (the program may answer octets before)
+        return support.connected(self.control)
 
     def commands(self, circuits: range, command: Command) -> None:
         """Gives a command to each of these circuits, and sees it done."""
@@ -216,51 +198,33 @@ class KeeperCase(support.FolderCase):
         """The signals of thirty calls."""
         return {circuit: ANSWERED if circuit % 2 else SEIZED for circuit in CIRCUITS}
 
-    def within(self, **of_modules: Any) -> dict[str, str]:
-        """The environment in which these limits of the service hold: lifecycle_START=0.5 is lifecycle.START."""
-        shows = {each.name for each in pkgutil.iter_modules(watcher.__path__)} - {'decisions', 'note', 'trunk'}
-        found = {}
-        for name, value in of_modules.items():
-            module, _, limit = name.partition('_')
-            found[f'{"watcher" if module in shows else "service"}.{module}.{limit}'] = value
-        return limits.around(found)
-
-    def dies(self, number: int = signal.SIGKILL) -> None:
-        """The program is sent a signal when it has answered all, and another one goes on behind that."""
-        os.kill(self.program, number)
-        self.goes_on_behind()
-
-    def goes_on_behind(self) -> None:
-        """The next program goes on behind all that was answered."""
-        self.assertIn(f'behind octet {(len(self.heard) - self.first) * MULTIFRAME}', self.goes_on())
-
-    def log(self) -> str:
-        """The folder of the log."""
-        words = words_of(self.program)
-        return words[words.index('--log') + 1]
+    def logged(self) -> int:
+        """How many octets of records the log has taken."""
+        with contextlib.closing(LogFiles(self.places.log)) as files:
+            pair = files.last()
+        assert pair
+        return pair.end
 
     def killed(self, number: int) -> None:
         """The program is sent a signal at any moment behind a record, and another one goes on."""
-        before = len(octets_in(b''.join(self.given))) - self.first * MULTIFRAME
+        before = self.logged()
         self.send()
         for _ in range(self.chance.randrange(0, 400)):
             pass
         with contextlib.suppress(ProcessLookupError):
             os.kill(self.program, number)
-        said = self.goes_on()
-        self.assertIn('octets (8 ms) at most', said)
-        taken = int(said.split('behind octet ')[1].split(',')[0]) if 'behind' in said else 0
-        self.assertIn(taken, (before, before + MULTIFRAME))
+        self.goes_on()
+        is_known = self.logged() > before
         back = self.settled()
         self.assertIn(len(back), (0, MULTIFRAME))
         if back:
             self.heard.append(back)
             self.device.exchange.hear(back)
-        elif taken == before:
+        elif is_known:
+            self.heard.append(None)     # its answer is lost
+        else:
             self.given.pop()            # it was read and never known
             self.unknown += 1
-        else:
-            self.heard.append(None)     # it was known, and its answer is lost
 
     def settled(self) -> bytes:
         """What has come back, once all that was sent is read and answered: a client's answer comes behind that."""
@@ -276,12 +240,6 @@ class KeeperCase(support.FolderCase):
             return b''
         finally:
             self.device.line.settimeout(SECONDS)
-
-    def under_way(self, does: Callable[[], object]) -> None:
-        """Does something while two multiframes are under way, and two more come."""
-        waiting = self.send(2)
-        does()
-        self.take(waiting + self.send(2))
 
     # ---- what must hold ----
 
@@ -326,88 +284,7 @@ class KeeperCase(support.FolderCase):
         self.assertFalse(self.device.exchange.remote_alarms)
 
     def ends(self) -> None:
+        """It ends, and leaves nothing."""
         self.keeper.terminate()
         self.assertEqual(self.keeper.wait(SECONDS), 0, self.told())
-        self.assertFalse(os.path.lexists(self.path('control')))
-
-
-class RestartedKeeperCase(KeeperCase):
-    """A service that is started again."""
-
-    def setUp(self) -> None:
-        super().setUp()
-        self.manager = Manager(self.path('notify'))
-        self.addCleanup(self.manager.close)
-        self.addCleanup(self._end_all)
-
-    def _end_all(self) -> None:
-        with contextlib.suppress(ProcessLookupError):
-            if self.program:
-                os.kill(self.program, signal.SIGKILL)
-
-    def begins(self, *options: str) -> None:
-        """The first start, with thirty calls."""
-        self.options = options
-        self.again()
-        self.device.accept()
-        self.goes_on()
-        self.calls()
-        self.settles()
-
-    def again(self) -> None:
-        with open(self.path('told'), 'ab') as told:
-            self.told_from = len(self.told())
-            self.keeper = self.manager.starts([*self.command, *self.options], told.fileno())
-        self.addCleanup(self._end)
-
-    def settles(self) -> None:
-        """Until systemd has the descriptors of the trunk and of thirty sockets, and what is noted is of now."""
-        sockets = {name_of(('127.0.0.1', port)) for port in self.peers.circuits}
-        support.until(lambda: (note := self.noted()) and {*note.trunk.names} | sockets | LOG == {*self.manager.files})
-
-    def noted(self) -> ServiceNote | None:
-        """What the service of now has noted, with a program that was up; None before that."""
-        found = None
-        for folder in glob.glob(os.path.join(glob.escape(self.memory), '*')):
-            found = note_in(NoteFiles(folder).read()) or found
-        return found if found and found.pid == self.keeper.pid and found.was_up else None
-
-    def known(self, holds: Callable[[list[dict[str, Any]]], object]) -> dict[str, Any]:
-        """The status at --control its-control, once the service knows the circuits and this holds of them. A program
-        tells at the next octets."""
-        pause = 0.001
-        while True:
-            with contextlib.suppress(OSError, EOFError):
-                status: dict[str, Any] = json.loads(ask(self.path('its-control'), b'status json'))
-                if status['program'] and holds(status['circuits']):
-                    return status
-            self.step()
-            time.sleep(pause := min(2 * pause, 1.0))
-
-    def comes_back(self) -> None:
-        """The service is begun again, and goes on with the program that is there."""
-        self.again()
-        self.awaits('the service was killed[;:] (?=program)')
-        self.goes_on()
-        self.settles()
-
-    def kill_keeper(self) -> None:
-        self.keeper.kill()
-        self.keeper.wait()
-
-    def dies_unkept(self) -> None:
-        """The service is killed where nobody keeps descriptors, and the next one opens the device again."""
-        self.kill_keeper()
-        self.step(20)
-        self.manager.forget()
-        self.again()
-        line = self.device.line
-        self.device.accept()
-        line.close()
-
-    def leaves_nothing(self) -> None:
-        """The trunk ends, and nothing of it is left."""
-        self.ends()
         self.assertEqual(os.listdir(self.memory), [])
-        self.manager.take_all()
-        self.assertEqual(self.manager.files, {})

@@ -22,7 +22,7 @@ import unittest
 from typing import Any, Callable, Iterator, Mapping, TypeVar
 
 from . import limits
-from e1gw.__main__ import COMMANDS, NOT_OFFERED
+from e1gw.__main__ import COMMANDS
 from e1gw.exchange import Exchange
 from e1gw.session import Kind, records_in
 from e1gw.testing import service
@@ -105,7 +105,7 @@ def launcher(name: str) -> str:
 def _launchers() -> str:
     folder = in_memory()
     atexit.register(folder.cleanup)
-    for name in COMMANDS | NOT_OFFERED:
+    for name in COMMANDS:
         os.symlink(os.path.join(TOP, 'driver', 'tests', 'start'), os.path.join(folder.name, f'e1gw-{name}'))
     return folder.name
 

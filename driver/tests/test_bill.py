@@ -16,6 +16,7 @@ from typing import Any, Coroutine
 from unittest import mock
 
 from . import support
+from .plain_trunk import PlainTrunk
 from .properties import PropertyCase
 from e1gw import call_names, log_folder
 from e1gw.calls import FIELDS
@@ -23,7 +24,6 @@ from e1gw.counts import DatagramCounts
 from e1gw.events import Event, LineChanged
 from e1gw.lines import IN_CALL, Role, State
 from e1gw.log_folder import LogPair, LogWriter
-from e1gw.service.operated import OperatedTrunk
 from e1gw.watcher import reader as readers, status as statuses, trunk as trunks
 from e1gw.watcher.reader import ReadingNote
 from e1gw.watcher.status import TrunkStatus
@@ -201,15 +201,10 @@ class BilledTrunk:
         """A service begins."""
         self.logs()
         reader = readers.LogReader(self.path('log'), 0.1, None, lambda: None, lambda: b'')
-        self.carrier = SimpleNamespace(
-            reader=reader, program=self.program, pair=None, version=lambda: SimpleNamespace(
-                name='', config_path=lambda: 'config'),
-            places=SimpleNamespace(tell=self.path('tell'), folder=self.folder, control=''),
-            trunk=SimpleNamespace(facts=lambda: {'fault': ''}, outage=lambda: None))
+        self.trunk = PlainTrunk(reader, self.folder, 'config')
         read, begun, note = pickle.loads(self.kept) if self.kept else (ReadingNote(), 0, None)
         reader.take_up(read, None)
-        self.status = status = TrunkStatus(OperatedTrunk(self.carrier, None), 'west', self.tells,  # type: ignore
-                                           DatagramCounts(), self.waiting.append)
+        self.status = status = TrunkStatus(self.trunk, 'west', self.tells, DatagramCounts(), self.waiting.append)
         status.waiting, status.changed = lambda: [*self.waiting], self.note
         if note:
             status.take_up(note)
@@ -217,7 +212,7 @@ class BilledTrunk:
         reader.told = lambda: status.lines.place
         self.connected = None
         if self.program.lives:
-            self.program.begun = begun
+            self.program.begun = self.trunk.first = begun
 
     def writes(self) -> None:
         """Before each write."""
@@ -232,7 +227,7 @@ class BilledTrunk:
     def note(self) -> None:
         self.writes()
         assert self.status
-        reader = self.carrier.reader
+        reader = self.trunk.reader
         begun = self.program.begun if self.program.lives else reader.octets
         self.kept = pickle.dumps((reader.noted(), begun, self.status.calls_note()))
 
@@ -243,14 +238,14 @@ class BilledTrunk:
             self.goes_on(1)
         self.file += self.waiting[:written]
         self.waiting.clear()
-        self.carrier.reader.take_out()      # (which closes its files)
+        self.trunk.reader.take_out()      # (which closes its files)
         self.status, self.left = None, FAR
 
     def looks(self) -> None:
         """The service does what it has to do now."""
         self.logs()
         try:
-            self.carrier.reader.look()
+            self.trunk.reader.look()
             if not self.program.lives and self.connected is not self.program:
                 self.starts()
             if self.m * MULTIFRAME == self.program.start:       # (clients come in behind a record)
@@ -281,10 +276,11 @@ class BilledTrunk:
 
     def starts(self) -> None:
         """Another program goes on from the log."""
-        now(self.carrier.reader.copied())
+        now(self.trunk.reader.copied())
         self.note()
         self.unheard += 1
-        self.program = self.carrier.program = Program(self.carrier.reader.octets, next(self.pids))
+        self.program = Program(self.trunk.reader.octets, next(self.pids))
+        self.trunk.first = self.program.start
         assert self.program.begun == self.m * MULTIFRAME
         self.log.begin(self.places[self.m], b'%d' % self.program.begun)
         self.note()
@@ -386,7 +382,7 @@ class BilledTrunk:
         self.since = {n: line.since for n, line in self.status.lines.lines.items()}
         self.status.calls.finish()
         self.file += self.waiting
-        self.carrier.reader.take_out()
+        self.trunk.reader.take_out()
         self.log.close()
         return [*map(lambda row: dict(zip(FIELDS, row)), csv.reader(self.file))]
 

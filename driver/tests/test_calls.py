@@ -3,25 +3,17 @@ from __future__ import annotations
 
 import csv
 import json
-import os
-import signal
 import unittest
-from datetime import datetime
 from typing import Any
 
 from . import support
-from .keepers import CIRCUITS, RestartedKeeperCase
 from .properties import PropertyCase
 from e1gw.call_names import CallNames
 from e1gw.calls import FIELDS, CallLog, is_another_gateway, moment
 from e1gw.counts import REASONS, CircuitCounts, DatagramCounts, ToldCounts
 from e1gw.events import LineChanged
-from e1gw.exchange import IDLE, SEIZED
 from e1gw.lines import IN_CALL, Line, Role, State
 from e1gw.watcher.missed import MissedReports
-from e1gw.session import MULTIFRAME, OCTETS_A_SECOND
-
-FAR = 0.005                 # seconds, of a line's times, which have milliseconds
 
 
 class CallEndTests(unittest.TestCase):
@@ -223,35 +215,3 @@ class NamingTests(support.FolderCase):
             naming = self.naming()
             self.assertEqual(self.counts(naming, 'a', 2), 2)
             self.assertEqual(json.loads(support.text_of(self.path('calls')))['life'], naming.life)
-
-
-class MissedCallsTests(RestartedKeeperCase):
-    def test_while_no_service_is_there(self) -> None:
-        """Calls end, begin and end, and begin, while the service is killed, and while it is replaced another one ends.
-        Each has one line, with the times of the trunk."""
-        self.begins('--control', self.path('its-control'), '--calls', self.path('its-calls'))
-        pairs = self.device.exchange.pairs
-        self.known(lambda rows: {row['state'] for row in rows} == {'answered'})
-        self.settles()
-        self.kill_keeper()
-        for changes, count in ({1: IDLE, 3: IDLE}, 60), ({1: SEIZED}, 30), ({1: IDLE, 3: SEIZED}, 40):
-            pairs.update(changes)
-            self.step(count)
-        self.comes_back()
-        self.known(lambda rows: (rows[0]['state'], rows[2]['state']) == ('idle', 'acked'))
-        self.settles()
-        self.under_way(lambda: self.keeper.send_signal(signal.SIGUSR2))
-        pairs[5] = IDLE
-        self.step(40)
-        self.awaits('the service was replaced; (?=program)')
-        self.known(lambda rows: rows[4]['state'] == 'idle')
-        self.ends()
-        rows = [*csv.DictReader(support.text_of(self.path('its-calls')).splitlines())]
-        self.assertEqual(sorted(int(row['circuit']) for row in rows), sorted([1, 3, *CIRCUITS]))
-        self.assertEqual((len({row['call'] for row in rows}), all(row['seized'] for row in rows)), (len(rows), True))
-        self.assertEqual({(row['circuit'], row['by']) for row in rows if row['by'] != 'stop'},
-                         {(n, 'exchange') for n in '135'})
-        seized, ended = (datetime.fromisoformat(row[key]) for row in rows for key in ('seized', 'ended')
-                         if row['circuit'] == '1' and not row['answered'])
-        self.assertAlmostEqual((ended - seized).total_seconds(), 30 * MULTIFRAME / OCTETS_A_SECOND, delta=FAR)
-        self.assertEqual(os.listdir(self.memory), [])

@@ -2,20 +2,19 @@
 the driver itself; the numbers here are those that gcc prints of dahdi/user.h of DAHDI 2.11.1."""
 from __future__ import annotations
 
-import asyncio
 import errno
 import os
-import socket
 import tempfile
 import unittest
+from dataclasses import replace
 from pathlib import Path
 from unittest import mock
 
 from e1gw import card_opening, dahdi
-from e1gw.dahdi import (BUFFERS, NUMBER, PARAMETERS, SPAN, Alarm, Blocks, CardFault, DahdiChannel, Request,
+from e1gw.dahdi import (BUFFERS, NUMBER, PARAMETERS, SPAN, Alarm, Blocks, CardFault, DahdiChannel, Request, SpanFacts,
                         channel_facts, span_facts)
-from e1gw.events import CardAlarm, CardAlarmChanged, Event
-from e1gw.service.card import GONE, CardWatch, watch_of
+from e1gw.events import Event
+from e1gw.watcher.card import CardWatch
 
 
 def at(octets: bytes, *values: tuple[int, int]) -> bytes:
@@ -145,12 +144,24 @@ class SetUpTests(unittest.TestCase):
 
 
 class CardWatchTests(unittest.TestCase):
+    """A card, whose driver says what is in `span`."""
+
     def setUp(self) -> None:
         self.told: list[Event] = []
-        self.channel = FakeChannel()
+        self.span = SpanFacts(3, 'X/1', Alarm(0), 31, dict.fromkeys(dahdi.COUNTS, 0))
+        self.fault = 0
+        self.enterContext(mock.patch.multiple('e1gw.watcher.card', CONTROL=os.devnull, LOOK=0.0, span_of=self.asked))
 
-    def watch(self) -> CardWatch:
-        return CardWatch(self.channel, self.told.append)
+    def asked(self, file: int, number: int) -> SpanFacts:
+        if self.fault or number != self.span.number:
+            raise OSError(self.fault or errno.EINVAL, os.strerror(self.fault))
+        os.fstat(file)
+        return self.span
+
+    def watch(self, told: int = 0) -> CardWatch:
+        watch = CardWatch(self.told.append, told)
+        self.addCleanup(watch.close)
+        return watch
 
     def words(self) -> list[str]:
         told, self.told[:] = [event.words() for event in self.told], []
@@ -165,58 +176,47 @@ class CardWatchTests(unittest.TestCase):
                 (4, ('card: RED alarm over',), 'the other end has no alignment'),
                 (4 | 2, ('card: LOOPBACK alarm: ',), 'the other end has no alignment'),
                 (16 | 32, ('card: LOOPBACK alarm over', 'card: YELLOW alarm over', 'card: BLUE', 'card: NOT OPEN'),
-                 'the card is in alarm: BLUE, NOT OPEN'), (1 << 8, ('card: BLUE', 'card: NOT'), None)):
-            self.channel.alarms = alarms
-            watch.look()
+                 'the card is in alarm: BLUE, NOT OPEN'), (0, ('card: BLUE', 'card: NOT'), None)):
+            self.span = replace(self.span, alarms=Alarm(alarms))
+            watch.look(3)
             told = self.words()
             self.assertEqual(len(told), len(begins))
             self.assertTrue(all(map(str.startswith, told, begins)), told)
             self.assertEqual(watch.outage(), outage)
-            self.assertEqual(watch.failure(), '')
 
-    def test_events(self) -> None:
-        """All of them are taken, at once; one of them says that the card is gone."""
-        watch = self.watch()
-        self.channel.events = [4, 5, 30, 4]
-        watch.look()
-        self.assertEqual((self.channel.events, watch.failure()), ([], ''))
-        self.channel.events = [4, 20]
-        watch.look()
-        self.assertEqual(watch.failure(), GONE)
-
-    def test_of_which_descriptors(self) -> None:
-        for is_card in True, False:
-            with mock.patch.multiple('e1gw.service.card', is_channel=lambda file: is_card, DahdiChannel=FakeChannel):
-                self.assertEqual(bool(watch_of(7, self.told.append)), is_card)
-
-    def test_gone(self) -> None:
-        watch = self.watch()
-        self.channel.is_away = True
-        self.assertEqual(watch.failure(), GONE)
+    def test_told_before(self) -> None:
+        """What another watcher has told is not told again."""
+        self.span = replace(self.span, alarms=Alarm(4))
+        watch = self.watch(8 | 4)
+        watch.look(3)
+        self.assertEqual((self.words(), watch.told), (['card: RED alarm over'], 4))
 
     def test_status(self) -> None:
-        self.channel.alarms = 8
+        """Nothing of what is no card, nor of one whose driver does not say it."""
         watch = self.watch()
-        found = {name: n for name, n in watch.status().items() if n}
-        self.assertEqual(found, {'span': 3, 'block': 16, 'buffers': 8, 'red': 1, 'bipolar_violations': 5,
-                                 'errored_seconds': 7, 'interrupts_missed': 9})
+        self.assertEqual(watch.status(), {})
+        self.span = replace(self.span, alarms=Alarm.RED, counts=self.span.counts | {'errored_seconds': 7})
+        watch.look(3)
+        self.assertEqual({name: n for name, n in watch.status().items() if n},
+                         {'span': 3, 'red': 1, 'errored_seconds': 7})
+        self.fault = errno.ENODEV
+        with self.assertLogs('e1gw.watcher.card') as logs:
+            for _ in range(3):
+                watch.look(3)
+        self.assertEqual((len(logs.records), watch.status(), watch.outage()), (1, {}, None))
+        self.fault = 0
+        watch.look(3)
+        self.assertEqual(watch.status()['span'], 3)
+        watch.look(0)
+        self.assertEqual(watch.status(), {})
 
-    def test_watched(self) -> None:
-        """It looks as soon as the descriptor has what is urgent, and leaves it open at its end."""
-        async def run() -> None:
-            with socket.create_server(('127.0.0.1', 0)) as listener, \
-                    socket.create_connection(listener.getsockname()) as near, listener.accept()[0] as far:
-                self.channel.file = near.fileno()
-                with mock.patch('e1gw.service.card.LOOK', 1e6):
-                    (watch := self.watch()).begin()
-                    await asyncio.sleep(0.01)       # (the first look)
-                    self.channel.alarms = 8
-                    far.send(b'!', socket.MSG_OOB)
-                    while not self.told:
-                        await asyncio.sleep(0.01)
-                for _ in range(2):
-                    watch.end()
-                self.assertTrue(watch._later.cancelled())
-                near.getsockname()
-        asyncio.run(run())
-        self.assertEqual(self.told, [CardAlarmChanged(CardAlarm.RED, True)])
+    def test_what_the_driver_is_asked(self) -> None:
+        """The number of the span is the first of its octets (struct dahdi_spaninfo)."""
+        asked = list[tuple[int, bytes]]()
+
+        def answers(_: int, request: int, octets: bytes) -> bytes:
+            asked.append((request, octets))
+            return at(octets, (64, 8), (124, 31))
+        with mock.patch('e1gw.dahdi.fcntl.ioctl', answers):
+            self.assertEqual(dahdi.span_of(9, 2).alarms, Alarm.RED)
+        self.assertEqual(asked, [(int(Request.SPAN_STATUS), at(bytes(SPAN.size), (0, 2)))])

@@ -15,9 +15,9 @@ from . import support
 from .support import ran
 from e1gw import ctl
 from e1gw.__main__ import COMMANDS
+from e1gw.holder.options import FLAGS, TEXTS
 from e1gw.picture import main as picture
-from e1gw.watcher import commands as control
-from e1gw.service import service
+from e1gw.watcher import commands as control, main as watcher
 from e1gw.tie import main as tie
 
 DRIVER = os.path.join(support.TOP, 'driver')
@@ -71,7 +71,7 @@ class CommandNameTests(support.FolderCase):
         os.symlink(os.path.join(DRIVER, 'launch'), self.path('e1gw-dance'))
         for words in ([self.path('e1gw-dance')], [sys.executable, '-m', 'e1gw', 'dance']):
             status, said, fault = ran(*words, env=AROUND)
-            self.assertEqual((status, said, fault.count('\n'), 'records, tie, trunk' in fault), (2, '', 1, True))
+            self.assertEqual((status, said, fault.count('\n'), 'records, tie, trunk, watch' in fault), (2, '', 1, True))
 
 
 class ProgramBuiltTests(support.FolderCase):
@@ -117,9 +117,11 @@ def offered(*words: str) -> list[str]:
 
 class PagesTests(unittest.TestCase):
     def test_options(self) -> None:
-        for command, parser in (('e1gw-trunk', service.parser()), ('e1gw-tie', tie.parser()),
+        its = {'e1gw-trunk': {f'--{name}' for name in (*TEXTS, *FLAGS, 'help')}}
+        for command, parser in (('e1gw-watch', watcher.parser()), ('e1gw-tie', tie.parser()),
                                 ('e1gw-picture', picture.parser())):
-            options = {word for action in parser._actions for word in action.option_strings if word.startswith('--')}
+            its[command] = {word for action in parser._actions for word in action.option_strings if word[:2] == '--'}
+        for command, options in its.items():
             synopsis, described = page(f'{command}.1').split('.Sh DESCRIPTION')
             named = {f'--{word}' for word in re.findall(r'(?:Fl|\|) -([\w-]+)', synopsis)}
             items = {f'--{word}' for line in re.findall(r'^\.It Fl .*', described, re.M)
@@ -130,11 +132,12 @@ class PagesTests(unittest.TestCase):
     def test_commands(self) -> None:
         commands = {*control.COMMANDS, 'drain', 'undrain', 'codec', 'status', 'events', 'on-loss', 'role', 'promote',
                     'demote', 'move', 'reload', 'quit', 'help'}
-        text = page('e1gw-trunk.1').split('.Sh COMMANDS')[1].split('.Sh FILES')[0]
+        text = page('e1gw-watch.1').split('.Sh COMMANDS')[1].split('.Sh FILES')[0]
         named = {word for line in re.findall(r'^\.It Ic .*', text, re.M) for word in re.findall(r'Ic ([\w-]+)', line)}
         self.assertEqual(named, commands)
-        self.assertEqual({*offered('trunk1')}, commands - {'undrain'} | {'calls', 'outages'})   # (of e1gw-ctl itself)
-        self.assertEqual({word for word in commands if word in (control.__doc__ or '')}, commands)
+        own = {'calls', 'outages'}                          # (of e1gw-ctl itself)
+        self.assertEqual({*offered('trunk1')}, commands - {'undrain', 'on-loss'} | own)
+        self.assertEqual({word for word in commands if word in (control.__doc__ or '')}, commands - {'on-loss'})
 
     def test_words_of_parts_that_are_gone(self) -> None:
         for pattern in '*.md', 'docs/*', 'dist/**/*', 'driver/e1gw/**/*.py':
@@ -148,7 +151,7 @@ class PagesTests(unittest.TestCase):
         self.assertEqual(ctl.path_of('trunk1'), '/run/e1gw/trunk1/control')
         self.assertIn(ctl.path_of('NAME'), page('e1gw-ctl.1'))
         self.assertIn(' --control /run/e1gw/%i/control', support.text_of(
-            f'{support.TOP}/dist/system/e1gw-trunk@.service'))
+            f'{support.TOP}/dist/system/e1gw-watch@.service'))
 
 
 class CompletionTests(unittest.TestCase):
@@ -162,7 +165,7 @@ class CompletionTests(unittest.TestCase):
     def test_words(self) -> None:
         for line, words in (('e1gw-tie --congestion ', 'clear-back wait'),
                             ('e1gw-tie --co', '--congestion --connect --control'),
-                            ('e1gw-trunk --senders ', 'any first host peer'), ('e1gw-trunk --satop-f', '--satop-fill'),
+                            ('e1gw-watch --js', '--json'),
                             ('e1gw-config --role o', 'odd outgoing'), ('e1gw-picture --la', '--last'),
                             ('e1gw-ctl ./west cl', 'clear clear-back'), ('e1gw-ctl --all se', 'seize'),
                             ('e1gw-ctl ./west codec 3 g726-1', 'g726-16')):

@@ -38,14 +38,11 @@ class CtlWordTests(unittest.TestCase):
             self.assertEqual(ctl.circuits_of(word), [word])
 
     def test_limits(self) -> None:
-        """A command has longer than it may take: of a reload its program is asked, its names are looked up, and it is
-        checked twice, on the log, and twice for the calls of now, before a program follows."""
+        """A command has longer than the watcher waits for what it asks."""
         last = limits.USUAL
-        self.assertGreater(ctl_all.LIMITS['reload'], last['programs.PATIENCE'] + last['service.version.LOOK_UP'] +
-                           5 * last['watcher.replay.CHECK'] + last['service.reload.PATIENCE'])
         self.assertGreater(ctl_all.LIMITS['reload'], last['watcher.door.PATIENCE'])
         for word in 'promote', 'demote', 'move':
-            self.assertGreater(ctl_all.LIMITS[word], last['service.pair.PATIENCE'] + last['watcher.feed.PATIENCE'])
+            self.assertGreater(ctl_all.LIMITS[word], last['watcher.pair.PATIENCE'] + last['watcher.feed.PATIENCE'])
 
     def test_paths(self) -> None:
         """The name of a trunk, unless it has a / or is that of a socket here."""
@@ -141,7 +138,7 @@ class CtlAnswerTests(support.FolderCase):
             os.mkdir('north')
             self.assertEqual(self.ctl('north', 'status'), (
                 2, [], f'e1gw-ctl: {self.path("run/north/control")}: No such file or directory (systemctl status '
-                'e1gw-trunk@north; e1gw-ctl alone lists the trunks)\n'))
+                'e1gw-watch@north e1gw-trunk@north; e1gw-ctl alone lists the trunks)\n'))
         self.assertEqual(ctl.unit_words('./west.control', FileNotFoundError()), '')
 
     def test_told_at_once(self) -> None:
@@ -330,7 +327,7 @@ class CtlAnswerTests(support.FolderCase):
                 (None, [], False, ['east', 'west']), ('west', [], False, ['seize', 'clear']),
                 (None, [], True, ['seize', 'clear']), ('west', ['status'], False, ['json', '1']),
                 ('status', [], True, ['json', '1']), ('west', ['reload'], False, ['force']),
-                ('west', ['on-loss'], False, ['keep', 'clear']), ('west', ['seize'], False, ['1', '2']),
+                ('west', ['seize'], False, ['1', '2']),
                 ('seize', [], True, ['1', '2']), ('west', ['codec', '1'], False, ['pcma', 'pcmu']),
                 ('west', ['quit'], False, []), ('west', None, False, ['seize', 'clear'])):
             found = ctl.next_words(parser(path=path, command=command, all=is_all))

@@ -244,7 +244,7 @@ class KeptTests(support.FolderCase, unittest.IsolatedAsyncioTestCase):
 
 class DrainedTrunkTests(unittest.TestCase):
     def test_one_trunk(self) -> None:
-        """Both roles, in calls and without: what clients are answered, what is shown, also by the next service, and
+        """Both roles, in calls and without: what clients are answered, what is shown, also by the next watcher, and
         that all is as before at the end."""
         world = World(config_of(range(1, 5), incoming=(2, 4)), '--state', '@/state')
         self.addCleanup(world.__exit__)
@@ -254,11 +254,7 @@ class DrainedTrunkTests(unittest.TestCase):
             'drain 1-4: blocked once their calls have ended: circuits 1-2', 'drain 1-4: done'])
         self.assertEqual(world.ask('seize 3'), f'seize 3: {BY_OPERATOR}')
         self.assertEqual(world.ask('unblock 4'), f'unblock 4: {BY_OPERATOR}')
-        world.process.send_signal(signal.SIGUSR2)
-        said = world.process.stderr
-        assert said
-        while b'the service was replaced' not in said.readline():
-            pass
+        os.kill(world.watcher(), signal.SIGKILL)        # (e1gw-trunk starts another one)
         world.connected()
         support.until(lambda: [(row['state'], row['drain']) for row in world.told()['circuits'][:5]] == [
             ('answered', 'drains'), ('acked', 'drains'), ('idle', 'drained'), ('blocked', 'drained'), ('idle', None)])

@@ -1,7 +1,6 @@
 """The feed of one machine, and the standby that it feeds, in one process."""
 from __future__ import annotations
 
-import argparse
 import asyncio
 import json
 import math
@@ -12,27 +11,24 @@ import subprocess
 import threading
 import time
 import unittest
-from contextlib import suppress
+from contextlib import nullcontext, suppress
 from itertools import accumulate
 from types import SimpleNamespace
-from typing import Sequence, cast
+from typing import Sequence
 from unittest import mock
 
 from . import support
 from .logs import WrittenLog
-from e1gw.events import Event, Fed, NotFed, RoleGiven
+from e1gw.events import Event, Fed, NotFed
+from e1gw.holder_state import TrunkPlaces
 from e1gw.watcher import standby
-from e1gw.service.decisions import Wish
 from e1gw.watcher.drains import Drains, KeptDrains
 from e1gw.watcher.feed import BACK, CARRIES, LENGTH, MARK, MOST_PIECE, PIECE, STATE, TAKES, FeedServer
-from e1gw.service.handover import CannotBegin
-from e1gw.service.lifecycle import GRACE
 from e1gw.log_folder import STATE_ROOM, LogPair
 from e1gw.watcher.missed import passed
-from e1gw.service.pair import TrunkPair, open_pair
-from e1gw.service.program import TrunkProgram
 from e1gw.watcher.reader import LogReader
 from e1gw.watcher.standby import NO_CERTIFICATE, NO_TRUNK, FedLog, TrunkStandby
+from e1gw.satop_numbers import PacketNumber, number_of_now
 from e1gw.session import MULTIFRAME, OCTETS_A_SECOND, trunk_record
 from e1gw.tls import context_of
 
@@ -47,7 +43,7 @@ class FeedTests(support.LoopCase):
         await super().asyncSetUp()
         self.enterContext(mock.patch.multiple(standby, AGAIN=0.001, MOST_AGAIN=0.004))
         os.mkdir(self.path('standby'))
-        self.log, self.over = WrittenLog(self.path('log')), asyncio.Event()
+        self.log = WrittenLog(self.path('log'))
         self.addCleanup(self.log.close)
         for _ in range(3):
             self.log.multiframe()
@@ -58,11 +54,11 @@ class FeedTests(support.LoopCase):
         reader.told = lambda: self.log.octets
         self.addCleanup(reader.log.close)
         self.config = self.write('here.toml', support.config_text({1: {}, 2: {'local_port': 5000}}))
-        self.program = SimpleNamespace(
-            is_up=True, places=SimpleNamespace(log=self.path('log')), process=SimpleNamespace(over=self.over, pid=77),
-            version=SimpleNamespace(config_path=lambda: self.config))
-        self.feed = FeedServer(HOST, lambda: cast(TrunkProgram, self.program), lambda: reader, lambda: 5,
-                               self.drains)
+        state = self.state = SimpleNamespace(program=77)
+        self.feed = FeedServer(HOST, mock.Mock(state=state, reader=reader, **{
+            'places.return_value': TrunkPlaces(self.folder), 'drains.return_value': self.drains,
+            'numbers.return_value': (5, 1000), 'config_path': lambda: self.config,
+            'carried_by': lambda: state.program}))
         server = await asyncio.start_server(self.feed.came, HOST, 0)
         self.addCleanup(server.close)
         self.place = server.sockets[0].getsockname()
@@ -71,8 +67,9 @@ class FeedTests(support.LoopCase):
     def stands_by(self, config: str = '', law: str = 'A', tls: Sequence[str] = ()) -> TrunkStandby:
         """Somebody who is fed from now on."""
         path = self.write('there.toml', config or support.config_text({1: {}, 2: {}}, law))
-        its = TrunkStandby(self.place, HOST, tls, lambda: mock.Mock(**{'config_path.return_value': path}),
-                           self.path('standby'), self.told.append)
+        trunk = mock.Mock(**{'config_path.return_value': path,
+                             'places.return_value': TrunkPlaces(self.path('standby'))})
+        its = TrunkStandby(self.place, HOST, tls, trunk, self.told.append)
         runs = asyncio.create_task(its.run())
         self.addCleanup(runs.cancel)
 
@@ -93,8 +90,9 @@ class FeedTests(support.LoopCase):
         its = self.stands_by()
         await self.fed(its)
         assert its.fed
-        self.assertEqual((its.fed.pid, its.fed.zero, its.fed.circuits, its.fed.place, self.told, self.drained),
-                         (77, 5, [], self.log.place, [Fed(f'{HOST}:{self.place[1]}', 77)], [[]]))
+        self.assertEqual((its.fed.pid, its.fed.circuits, its.fed.place, self.told, self.drained),
+                         (77, [], self.log.place, [Fed(f'{HOST}:{self.place[1]}', 77)], [[]]))
+        self.assertEqual((its.fed.number(), its.fed.folder), (5 + its.fed.octets // 1000, self.path('standby/fed')))
         last = its.last()
         self.assertEqual(last and (last.state, len(last.records)), (b'state', MULTIFRAME + 4))
         self.drains.now = Drains().taken((2, 30))
@@ -113,17 +111,15 @@ class FeedTests(support.LoopCase):
         its = self.stands_by()
         await self.fed(its)
         before = its.last()
-        self.program.is_up = False
-        self.over.set()
+        self.state.program = 0
         await self.until(lambda: its.why == NO_TRUNK)
         self.assertEqual([str(each.why) for each in self.told if isinstance(each, NotFed)],
                          ['the feed has ended', NO_TRUNK])
         self.assertEqual((its.last(), self.feed.age(), self.handed), (before, None, []))
-        self.over.clear()
-        self.program.is_up, self.program.process.pid = True, 78
+        self.state.program = 78
         await self.until(lambda: its.fed and its.fed.pid == 78)
         await self.fed(its)
-        self.assertEqual((its.why, len(os.listdir(self.path('standby')))), ('', 1))
+        self.assertEqual((its.why, os.listdir(self.path('standby'))), ('', ['fed']))
 
     async def test_it_is_handed_over(self) -> None:
         """Once it has all it is to carry the trunk; this machine learns when it does."""
@@ -132,7 +128,7 @@ class FeedTests(support.LoopCase):
         await self.fed(its)
         self.log.multiframe()
         self.feed.hands_over = True
-        self.over.set()
+        self.state.program = 0
         await self.until(lambda: self.handed)
         assert its.fed
         self.assertEqual((self.handed, its.fed.octets, self.feed.is_carried), ([True], self.log.octets, False))
@@ -141,12 +137,12 @@ class FeedTests(support.LoopCase):
         await self.feed.finish(support.SECONDS)
         self.assertEqual(self.handed, [True])
 
-    async def test_the_service_ends(self) -> None:
+    async def test_the_watcher_ends(self) -> None:
         """A feed that ends with it is no fault."""
         faults = mock.Mock()
         asyncio.get_running_loop().set_exception_handler(faults)
         await self.fed(self.stands_by())
-        feeds = {each for each in asyncio.all_tasks() if 'FeedServer.came' in repr(each)}
+        feeds = {each for each in asyncio.all_tasks() if 'FeedServer._serve' in repr(each)}
         self.assertTrue([each.cancel() for each in feeds])
         await asyncio.wait(feeds)
         await asyncio.sleep(0)
@@ -167,7 +163,7 @@ class FeedTests(support.LoopCase):
             await self.until(lambda: its.why)
         self.assertEqual((its.why, its.fed), (NO_TRUNK, None))
         said_of_it = [each.getMessage() for each in told.records]
-        self.assertIn(f'feed: {HOST} is not --standby, and is fed nothing', said_of_it)
+        self.assertIn(f'feed: {HOST} is not --fed-from, and is fed nothing', said_of_it)
 
     async def test_who_does_not_read(self) -> None:
         """He is dropped once he is too far behind. Who comes again is given another state."""
@@ -191,17 +187,18 @@ class FeedTests(support.LoopCase):
         begun = len(head) + json.loads(head)['state']
         good = head + await reader.readexactly(begun - len(head) + 20_000)
         writer.close()
-        state, none = good[:begun], 'what comes there is no feed of e1gw-trunk'
+        state, none = good[:begun], 'what comes there is no feed of e1gw-watch'
         piece = 'a piece of the feed is too long, or has no time'
         rows = [(b'', NO_TRUNK), (state + PIECE.pack(math.nan, 0), piece), (b'SSH-2.0-OpenSSH_9.2p1\r\n', none),
-                (state + PIECE.pack(1.0, MOST_PIECE + 1), piece), (b'{"e1gw_feed": 7, "law": "A"}\n', none),
+                (state + PIECE.pack(1.0, MOST_PIECE + 1), piece), (b'{"e1gw_feed": 8, "law": "A"}\n', none),
                 (state + PIECE.pack(0.0, STATE) + LENGTH.pack(STATE_ROOM + 1), 'a state of the feed is too long'),
                 (good.replace(b'"law": "A"', b'"law": "mu"'), 'its law is mu, and here it is A'),
-                (good.replace(b'"e1gw_feed": 7', b'"e1gw_feed": 6'), 'a feed of version 6, and this is 7'),
+                (good.replace(b'"e1gw_feed": 8', b'"e1gw_feed": 7'), 'a feed of version 7, and this is 8'),
                 (good.replace(b'"program": ', b'"program": 0.5e'), none), (b'[' * 60_000 + b'\n', none),
                 (b'x' * 200_000, ''), (good[:begun - 1], 'the feed has ended'),
                 *((good[:length], '') for length in (*range(1, 12), *range(begun, len(good), len(good) // 9)))]
         left, found = iter(rows), list[str]()
+        its: TrunkStandby
 
         def came(_: asyncio.StreamReader, writer: asyncio.StreamWriter) -> None:
             found.append(its.why)
@@ -240,84 +237,37 @@ class FeedTests(support.LoopCase):
                 self.assertEqual(await reader.read(1), b'')         # (it shows none)
             reader, _ = await asyncio.open_connection(*self.place, local_addr=('127.0.0.9', 0))
             self.assertEqual(await reader.read(), b'')
-        self.assertIn('feed: 127.0.0.9 is not --standby, and is fed nothing', [
+        self.assertIn('feed: 127.0.0.9 is not --fed-from, and is fed nothing', [
             each.getMessage() for each in told.records])
 
 
-class PairRoleTests(unittest.IsolatedAsyncioTestCase):
-    """One of two machines, whose carrier is played."""
+class PacketNumberTests(support.FolderCase):
+    """Which packet is next, by the files of the folder of a trunk."""
 
-    def setUp(self) -> None:
-        self.carrier = mock.Mock(ending='', ends=asyncio.Event(), has_carried=False, program=None)
-        self.carrier.trunk.finish, self.feed = mock.AsyncMock(), mock.Mock(finish=mock.AsyncMock())
+    def number(self, first: object, said: str, age: float) -> PacketNumber | None:
+        path = self.write('satop', said)
+        self.write('satop.ends', json.dumps({'first': first, 'words': ['x', '--size', '256']}))
+        os.utime(path, (1000.0, 1000.0))
+        with mock.patch('time.time', lambda: 1000.0 + age):
+            return number_of_now(path)
 
-    def test_asked_back_at_once(self) -> None:
-        """Who waits for the trunk to open goes on, unless its end is asked for."""
-        for ending in '', 'quit':
-            self.carrier.ending = ending
-            its = TrunkPair(self.carrier, mock.Mock(), self.feed, True)
-            its.goes(False, True)
-            self.assertEqual((its.is_active, self.feed.hands_over, self.carrier.ends.is_set()), (False, True, True))
-            its.goes(True)
-            self.assertEqual((its.is_active, self.feed.hands_over, self.carrier.ends.is_set()),
-                             (True, False, bool(ending)))
-        self.assertEqual([each.args for each in self.carrier.want.call_args_list], [(Wish.DEMOTE,), (Wish.NONE,)] * 2)
+    def test_what_was_said(self) -> None:
+        """That, and what was sent since, by its time. Without a process there are no packets."""
+        self.assertIsNone(number_of_now(self.path('satop')))
+        self.assertIsNone(self.number('x', '', 0.0))
+        for first, said, age, number in ((7, '', 0.0, 7), (7, 'satop received=9 sent=3\nsatop sent=5\n', 0.0, 12),
+                                         (65_530, 'satop sent=10\n', 2.0, 2004), (7, '', -5.0, 7)):
+            self.assertEqual(self.number(first, said, age), PacketNumber(number, 256))
 
-    def test_facts(self) -> None:
-        """What it is fed is known of a standby alone."""
-        for is_active in True, False:
-            self.feed.age.return_value = None
-            facts = TrunkPair(self.carrier, mock.Mock(**{'age.return_value': None}), self.feed, is_active).facts()
-            self.assertEqual((facts['role'], 'differs' in facts), ('active' if is_active else 'standby', not is_active))
-
-    def test_what_is_over(self) -> None:
-        """A move once the other machine carries the trunk, a demotion before."""
-        its, self.feed.is_carried = TrunkPair(self.carrier, mock.Mock(), self.feed, False), False
-        self.assertEqual([its._is_over(word) for word in ('demote', 'move')], [True, False])
-        self.feed.is_carried = True
-        self.assertTrue(its._is_over('move'))
-
-    async def test_given_up(self) -> None:
-        """Nothing is read of the log, which another machine's takes the place of, and systemd and others learn it."""
-        its = TrunkPair(self.carrier, mock.Mock(), self.feed, False)
-        self.carrier.ends.set()
-        await its._give_up()
-        self.assertEqual((self.carrier.reader.rests, self.carrier.ends.is_set(), self.carrier.trunk.fault),
-                         (True, False, 'standby'))
-        self.carrier.trunk.tell.assert_called_once_with(RoleGiven('standby'))
-        self.assertEqual((self.carrier.trunk.finish.await_count, self.feed.finish.await_args), (1, mock.call(GRACE)))
-
-    async def test_where_it_feeds(self) -> None:
-        """A port that is taken ends no trunk that goes on."""
-        self.carrier.places.folder = '/none'
-        with socket.create_server((HOST, 0)) as held:
-            port = held.getsockname()[1]
-            asked = argparse.Namespace(feed=f'{HOST}:{port}', standby=f'{HOST}:9', tls=None, insecure=False)
-            taken = f'^cannot listen: --feed {HOST}:{port}: .*address already in use$'
-            with self.assertRaisesRegex(CannotBegin, taken) as refused:
-                await open_pair(asked, self.carrier, None)
-            with self.assertLogs('e1gw.service.pair') as told:
-                its = await open_pair(asked, self.carrier, mock.Mock(is_active=True))
-        self.assertRegex(told.records[0].getMessage(), taken)
-        self.assertEqual((refused.exception.status, its and its.is_active), (1, True))
-        await open_pair(asked, self.carrier, None)
-        _, writer = await asyncio.open_connection(HOST, port)
-        writer.close()
-
-    async def test_taken_over(self) -> None:
-        """The next program begins with what was fed, behind the time since octets came, or with nothing."""
-        carrier, fed = self.carrier, mock.Mock(came=7.0, place=3, octets=9)
-        carrier.trunk.line.satop = mock.Mock()
-        for known, lost in (fed, ', 2 of them ones'), (None, ', too old; all calls begin anew'):
-            words = lost.partition(';')[0] if known else 'too old'
-            its = mock.Mock(fed=fed, goes_to=mock.AsyncMock(return_value=(known, words)))
-            with mock.patch('shutil.rmtree') as removed:
-                await TrunkPair(carrier, its, self.feed, True)._take_over()
-            its.goes_to.assert_awaited_once_with(carrier.places.log, True)
-            self.assertEqual((carrier.silent, carrier.lost, carrier.why, carrier.was_up), (7.0, lost, 'promoted', True))
-            self.assertEqual(carrier.reader.begins_anew.call_args.args, ((3, 9),) if known else ())
-            self.assertEqual(removed.call_args_list, [mock.call(carrier.places.log, ignore_errors=True)] * (not known))
-        self.assertEqual((carrier.trunk.zero, carrier.trunk.ones), (fed.zero, fed.ones))
+    def test_the_first_one(self) -> None:
+        """That with the trunk's octet 0, and at the other machine the next one behind other octets."""
+        for number, octets in (100, 25_600), (3, 256_000), (0, 1):
+            fed = FedLog(self.folder, 0, octets, (PacketNumber(number, 256).zero(octets), 256))
+            self.assertEqual(fed.number(), number)
+            fed.octets += 2560
+            self.assertEqual(fed.number(), number + 10)
+            fed.close()
+        self.assertIsNone(FedLog(self.folder, 0, 0).number())
 
 
 class ReadAgainTests(unittest.TestCase):
@@ -343,18 +293,22 @@ class FedLogTests(support.FolderCase):
     """When octets came at the other machine, by its clock and what comes of them here."""
 
     def test_closed(self) -> None:
-        """Nothing is open then, and its folder is gone, unless a program has it."""
-        for is_kept in True, False:
-            fed = FedLog(self.folder, 0, 0, 0)
-            fed.begin(b'')
-            self.assertEqual(len(self.held()), 4)
-            fed.close(is_kept)
-            self.assertEqual((self.held(), os.path.exists(fed.folder)), ([], is_kept))
+        """Nothing is open then, and its folder is gone; one that another has is left."""
+        places = TrunkPlaces(self.folder)
+        first, second = FedLog(self.folder, 0, 0), FedLog(self.folder, 0, 0)
+        for each in first, second:
+            each.begin(b'')
+            each.goes_to(places.fed)
+        self.assertEqual((os.listdir(self.folder), len(self.held())), (['fed'], 8))
+        first.close()
+        self.assertEqual((os.listdir(self.folder), len(self.held())), (['fed'], 4))
+        second.close()
+        self.assertEqual((os.listdir(self.folder), self.held()), ([], []))
 
     def test_ones(self) -> None:
         """They stand for the time since octets came, each for its time once."""
         with mock.patch.object(standby, 'time', mock.Mock(**{'monotonic.return_value': 1001.0})):
-            fed = FedLog(self.folder, 0, 0, 0)
+            fed = FedLog(self.folder, 0, 0)
             fed.came = 1000.0
             self.assertEqual((fed.ones(), fed.ones()), (256_000, 0))
 
@@ -365,7 +319,7 @@ class FedLogTests(support.FolderCase):
         time = mock.Mock()
         with mock.patch.object(standby, 'time', time):
             time.monotonic.return_value = 1000.0
-            fed, given, comes = FedLog(self.folder, 0, 0, 0), 0, 0
+            fed, given, comes = FedLog(self.folder, 0, 0), 0, 0
             self.addCleanup(fed.close)
             fed.begin(b'')
             for word in accumulate([0.012 + 0.008 * chance.random() for _ in range(200)], initial=1000.0):
@@ -389,12 +343,13 @@ class StandbyTests(support.LoopCase):
     """A standby that nobody feeds, and one that is to carry the trunk, and whose program does."""
 
     def standby(self) -> TrunkStandby:
-        return TrunkStandby((HOST, 1), '', (), mock.Mock(), self.folder, mock.Mock())
+        trunk = mock.Mock(**{'places.return_value': TrunkPlaces(self.folder), 'version': lambda: nullcontext(None)})
+        return TrunkStandby((HOST, 1), '', (), trunk, mock.Mock())
 
     async def test_a_log_that_is_full(self) -> None:
         """A state behind all records takes their place, if the program takes these."""
         self.assertIsNone(self.standby().last())
-        fed, status = FedLog(self.folder, 0, 0, 0), 0
+        fed, status = FedLog(self.folder, 0, 0), 0
         self.addCleanup(fed.close)
         fed.begin(b'before')
 
@@ -409,20 +364,22 @@ class StandbyTests(support.LoopCase):
             await fed._shorten(mock.Mock(run=run))
 
     async def test_what_is_too_old(self) -> None:
-        """It is not taken, nor is what there is not."""
+        """It is forgotten; what is not gets ones for its age, and stays in its place."""
         its = self.standby()
-        self.assertEqual(await its.goes_to(self.path('log'), False), (None, 'nothing is known'))
-        in_time = ', 0 of them ones'            # (a far end that is sent the last packets has them)
-        for age, is_given, limit, words in (3000.0, False, 9.0, 'what is known is 3000 s old'), (
-                0.5, True, support.SECONDS, in_time), (0.5, False, support.SECONDS, ''), (0.5, True, 0.1, ''):
-            with mock.patch.multiple(standby, MOST_AGE=2000.0, IN_TIME=limit):
-                its.fed = fed = FedLog(self.folder, 0, 0, 0)
-                fed.begin(b'state')
-                fed.came = fed.fresh = time.monotonic() - age
-                found, told = await its.goes_to(self.path('log'), is_given)
-            self.assertEqual((found, told[:len(words)], its.fed), (None if age > 1 else fed, words, None))
-            self.assertEqual(told == in_time, words == in_time)
-        self.assertEqual((os.listdir(self.folder), self.held()), (['log'], []))
+        self.assertEqual(await its.fill(), 'nothing is known')
+        for age, words, left in (3000.0, 'what is known is 3000 s old', []), (0.5, 'behind octet ', ['fed']):
+            fed = FedLog(self.folder, 0, 0)
+            fed.begin(b'state')
+            its.knows(fed)
+            fed.came = fed.fresh = time.monotonic() - age
+            with mock.patch.object(standby, 'MOST_AGE', 2000.0):
+                told = await its.fill()
+            self.assertEqual((told[:len(words)], os.listdir(self.folder), its.fed),
+                             (words, left, fed if left else None))
+        self.assertEqual(told, f'behind octet {fed.octets}, {fed.octets} of them ones')
+        self.assertGreaterEqual(fed.octets, 128_000)
+        its.knows(None)
+        self.assertEqual((os.listdir(self.folder), self.held()), ([], []))
 
     async def said(self, *words: int) -> tuple[float, list[bool]]:
         """What it says last, and whether it gives the trunk back, if the other machine has said this and leaves."""
@@ -443,7 +400,7 @@ class StandbyTests(support.LoopCase):
     async def told(self, carried: bool, leaves: bool) -> list[bytes]:
         """What a machine says to the standby to which it hands the trunk over, if that carries it, or leaves, or is
         silent."""
-        its, left = FeedServer('', mock.Mock(), mock.Mock(), mock.Mock(), mock.Mock()), asyncio.Future[None]()
+        its, left = FeedServer('', mock.Mock()), asyncio.Future[None]()
         its._writer, its.is_carried = mock.Mock(), carried
         if leaves:
             left.set_result(None)

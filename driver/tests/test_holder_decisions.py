@@ -10,7 +10,7 @@ from typing import Iterator
 from e1gw.holder.decisions import (APART, DEATHS, FIRST_PAUSE, MOST_DEATHS, MOST_LINE_PAUSE, MOST_PAUSE, QUICK,
                                    Beginning, Deaths, Decision, EndFault, EndOfProgram, EndReason, NextAct, Openings,
                                    Renewals, Trial, after_end, beginning_of, is_active)
-from e1gw.holder.satop_line import next_number
+from e1gw.satop_numbers import next_number
 
 OFTEN = Deaths((1.0, 1.1, 1.2, 1.3), 0.0, DEATHS - 1)       # one more at 1.4 waits; a crash is one too many
 DIED = EndOfProgram(EndReason.NONE, EndFault.NONE, was_up=True, is_well=False, is_crash=True, is_line_over=False,

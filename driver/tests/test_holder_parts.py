@@ -22,7 +22,6 @@ from e1gw import lock
 from e1gw.holder import ending, log, starting
 from e1gw.holder.card import Card
 from e1gw.holder.decisions import Deaths, Decision, EndFault, NextAct
-from e1gw.holder.files import in_memory
 from e1gw.holder.holder import Holder
 from e1gw.holder.line import HeldLine, has_ended
 from e1gw.holder.loop import Loop
@@ -31,6 +30,7 @@ from e1gw.holder.program import end_words, fault_in, taken
 from e1gw.holder.sockets import HeldSockets, address_in, name_of
 from e1gw.holder.store import Store
 from e1gw.holder.version import Tried, Versions, tried_in, version_of
+from e1gw.memory import in_memory
 from e1gw.testing.ports import free_ports
 from e1gw.trunks import Stream
 
@@ -96,6 +96,23 @@ class StoreTests(FolderCase):
         self.store.forget()
         self.assertEqual(self.told(), ['FDSTOREREMOVE=1', 'FDNAME=a'])
 
+    def test_closed_meanwhile(self) -> None:
+        """It is not given, nor another file of its number; one that was given stays until others are to be kept."""
+        first, second = (in_memory(name) for name in (b'first', b'second'))
+        self.store.keep({'first': first})
+        with mock.patch.object(self.store, 'tell', return_value=False):
+            self.store.keep({'first': first, 'second': second})
+        os.close(first)
+        os.dup2(self.files['1'], second)
+        self.told()
+        self.store.say('READY=1')
+        self.assertEqual((self.told(), self.store.lags), (['READY=1'], False))
+        os.close(second)
+        self.store.say('READY=1')
+        self.assertEqual((self.told(), self.store.lags), (['READY=1'], False))
+        self.store.keep({'first': first})
+        self.assertEqual(self.told(), ['FDSTOREREMOVE=1', 'FDNAME=first'])
+
     def test_nobody_listens(self) -> None:
         self.line.close()
         os.unlink(self.path('notify'))
@@ -114,6 +131,15 @@ class LockTests(FolderCase):
         self.assertEqual(os.listdir(self.folder), [])
         os.close(lock.hold(path))
         os.close(lock.hold(path))
+
+    def test_without_room(self) -> None:
+        """Who cannot say his number has it all the same."""
+        path = self.path('lock')
+        with mock.patch('os.pwrite', side_effect=OSError(28, 'x')):
+            file = lock.hold(path)
+        with self.assertRaises(lock.InUse):
+            lock.hold(path)
+        os.close(file)
 
     def test_removed_meanwhile(self) -> None:
         """What is locked is the file that others find."""
@@ -366,7 +392,7 @@ class HolderOptionsTests(unittest.TestCase):
 
     def test_help(self) -> None:
         """A page has all of them, and no others."""
-        named = {word.removeprefix('--').rstrip(',') for word in HELP.split() if word.startswith('--')}
+        named = {word.removeprefix('--').rstrip(',') for word in HELP.split() if word.startswith('--')} - {''}
         self.assertEqual(named, {*TEXTS, *FLAGS})
         self.assertLessEqual(len(named), 20)
         self.assertLessEqual(max(map(len, HELP.splitlines())), 120)
@@ -380,16 +406,22 @@ class HolderOptionsTests(unittest.TestCase):
         found = options_of(self.options('--satop', '127.0.0.1:1,h:2,jitter=8', '--crc4', '--name', 'n'), {})
         self.assertEqual(found.line.satop, ('127.0.0.1:1', 'h:2', '--size', '256', '--jitter', '8'))
         self.assertEqual((found.words, found.line.crc4), (('--crc4', '--live'), True))
-        self.assertEqual(options_of(self.options('--in', 'a', '--out', 'a'), {}).line.trunk, 'a')
+        found = options_of(self.options('--in', 'a', '--out', 'a', '--', '--json', '-'), {})
+        self.assertEqual((found.line.trunk, found.watch), ('a', ('--json', '-')))
+        self.assertIsNone(options_of(self.options('--unix', 'a', '--alone'), {}).watch)
 
     def test_refused(self) -> None:
         for words, why in (
                 (list[str](), 'a trunk is'), (['--unix', 'a', '--tcp', 'h:1'], 'a trunk is'),
-                (['--in', 'a'], 'a trunk is'), (['--tcp', 'h'], 'no HOST:PORT'), (['--x'], 'no such option'),
+                (['--in', 'a'], 'a trunk is'), (['--tcp', 'h'], 'no HOST:PORT'),
+                (['--http', 'h:1'], '--http: no option of e1gw-trunk'),
                 (['--unix'], 'wants a value'), (['--unix', 'a', '--repeat', '9'], '0 to 8'),
                 (['--unix', 'a', '--senders', 'x'], 'any, first, host, peer'),
                 (['--satop', 'a:1,b:2,x=1'], 'x=1'), (['--satop', 'a:1'], 'no HOST:PORT'),
-                (['--satop', 'a:1,b:2,size=33'], 'multiple of 32'), (['--unix', 'a', '--name', 'x/y'], 'no name'),
+                (['--satop', 'a:1,b:2,size=33'], 'multiple of 32'),
+                (['--satop', 'a:1,b:2,rtp=128'], 'rtp= .* 0 to 127'),
+                (['--satop', 'a:1,b:2,jitter=x'], '0 to 500'), (['--satop', 'a:1,b:2,clock=x'], 'packets or own'),
+                (['--unix', 'a', '--name', 'x/y'], 'no name'),
                 (['--unix', 'a', '--align', '--clear'], '--align'), (['--unix', 'a', '--blocks', '0,2'], '--blocks'),
                 (['--unix', 'a', '--folder', 'x' * 100], '107 octets'),
                 (['--unix', 'a', '--crc4', '--clear'], '--crc4')):
@@ -435,6 +467,21 @@ class HeldFolderTests(FolderCase):
         self.assertTrue(os.path.isdir(self.path('memory/trunk-0/log')))
 
 
+    def test_a_log_that_has_no_room(self) -> None:
+        """It is put back in memory, if its folder is not there already; else it is tried again."""
+        options = mock.Mock(folder=self.path('disk/trunk-0'))
+        holder = mock.Mock(spec=['folder', 'options', 'log'], options=options, folder=options.folder)
+        holder.log.put_back = mock.Mock(side_effect=[OSError(28, 'x'), True, OSError(28, 'x')])
+        with mock.patch.object(starting, 'MEMORY', self.path('memory')), mock.patch.object(starting, 'say') as said:
+            starting.put_back_log(holder)
+            with self.assertRaises(OSError):
+                starting.put_back_log(holder)
+        memory = self.path('memory/trunk-0')
+        self.assertEqual([each.args[0] for each in holder.log.put_back.mock_calls],
+                         [f'{options.folder}/log', f'{memory}/log', f'{memory}/log'])
+        self.assertEqual((holder.folder, len(said.mock_calls)), (memory, 2))
+
+
 class TurnTests(unittest.TestCase):
     def test_the_next_program_starts_at_once(self) -> None:
         """In the turn in which one has ended, or the line is open: no wait is between them."""
@@ -456,12 +503,12 @@ class TurnTests(unittest.TestCase):
 class HolderAnswerTests(unittest.TestCase):
     def test_where_no_program_follows(self) -> None:
         """At once: of a line that is opened again who wants another program; of a trunk that is released whoever
-        waits."""
+        waits. systemd is told the end of a reload."""
         def reopens(holder: mock.Mock) -> None:
             ending.do(holder, Decision(NextAct.REOPEN, Deaths()), 'the trunk has ended', 5.0)
         for does, waits in (reopens, ['take']), (Holder.release, list[str]()):
-            holder = mock.Mock(spec=Holder, status=None)
-            for name in 'line', 'sockets', 'log':
+            holder = mock.Mock(spec=Holder, status=None, is_active=False, folder='/none')
+            for name in 'line', 'sockets', 'log', 'store':
                 setattr(holder, name, mock.Mock())
             holder.settle = functools.partial(Holder.settle, holder)
             asked = [mock.Mock(word=word) for word in ('reload', 'renew', 'take')]
@@ -469,6 +516,7 @@ class HolderAnswerTests(unittest.TestCase):
             does(holder)
             self.assertEqual([each.word for each in holder.requests], waits)
             self.assertEqual([len(each.refused.mock_calls) for each in asked], [1, 1, int(not waits)])
+            self.assertEqual(holder.store.say.mock_calls, [mock.call('READY=1')])
 
 
 class RemovedFolderTests(FolderCase):

@@ -2,8 +2,6 @@
 from __future__ import annotations
 
 import os
-import subprocess
-import sys
 import unittest
 from typing import Callable
 from unittest import mock
@@ -11,7 +9,7 @@ from unittest import mock
 from . import support
 from e1gw import log_folder
 from e1gw.log_folder import (HEAD_LEN, RECORDS, STATES, FolderReader, LogBegun, LogFiles, LogNews, LogPair,
-                                     LogPiece, LogState, LogTurn, LogWriter, NoRoom, head_of, holder_of)
+                                     LogPiece, LogState, LogTurn, LogWriter, NoRoom, head_of)
 
 ROOM = 1 << 12              # octets of the files
 STEPS = 300
@@ -271,21 +269,3 @@ class DamagedFolderTests(LogFolderCase):
         self.assertEqual(log_folder.state_in(1, b'E1GC' + bytes(7) + b'\5xy'), LogState(1, 5, b'xy'))
         self.assertIsNone(log_folder.state_in(1, b'E1GS' + bytes(30)))
 
-
-class HolderTests(support.FolderCase):
-    HOLDS = 'import fcntl, os, sys; f = open(sys.argv[1], "w"); fcntl.flock(f, fcntl.LOCK_EX); ' \
-            'print(os.getpid(), file=f, flush=True); print(flush=True); sys.stdin.read()'
-
-    def test_holder(self) -> None:
-        """Who holds the lock; a file that nobody holds says nothing."""
-        self.assertEqual(holder_of(self.folder), 0)
-        words = [sys.executable, '-c', self.HOLDS, self.path('lock')]
-        with subprocess.Popen(words, stdin=subprocess.PIPE, stdout=subprocess.PIPE) as process:
-            assert process.stdin and process.stdout
-            process.stdout.readline()
-            self.assertEqual(holder_of(self.folder), process.pid)
-            self.write('lock', '1')         # (another one had written its number there)
-            self.assertEqual(holder_of(self.folder), process.pid)
-            process.stdin.close()
-            process.wait()
-        self.assertEqual(holder_of(self.folder), 0)

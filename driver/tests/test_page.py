@@ -9,7 +9,7 @@ import json
 import socket
 import unittest
 import urllib.request
-from typing import Any, Callable
+from typing import Any
 from unittest import mock
 
 from . import support
@@ -156,13 +156,12 @@ class PageServerTests(unittest.IsolatedAsyncioTestCase):
                 fields['Content-Security-Policy'], body)
 
     async def test_texts(self) -> None:
-        for path, kind, body in (('/', 'text/plain', 'rows'), ('/table', 'text/plain', 'rows'), (
-                '/metrics', 'text/plain; version=0.0.4', 'samples'), ('/status', 'application/json', '{}\n')):
+        for path, kind, body in (('/', 'text/plain', 'rows'), ('/metrics', 'text/plain; version=0.0.4', 'samples'),
+                                 ('/status', 'application/json', '{}\n')):
             self.assertEqual(await self.answered('GET', path), ('200 OK', kind, pages.NOTHING, body))
             self.assertEqual(await self.answered('HEAD', path), ('200 OK', kind, pages.NOTHING, ''))
         status, _, _, body = await self.answered('GET', '/none')
-        self.assertEqual((status, body.strip()), ('404 Not Found', 'there are /, /table, /metrics, /status, /trunks, '
-                                                  '/events'))
+        self.assertEqual((status, body.strip()), ('404 Not Found', 'there are /, /metrics, /status, /trunks, /events'))
         self.assertEqual((await self.answered('POST', '/'))[0], '405 Method Not Allowed')
 
     async def test_pages(self) -> None:
@@ -260,12 +259,15 @@ class WebPartTests(unittest.IsolatedAsyncioTestCase):
         the page."""
         drawn, begun = asyncio.Event(), list[Any]()
 
-        async def ran(starts: Callable[[int, int], object], *_: object) -> tuple[int, str, bytes]:
-            begun.append(starts(0, 1))
+        async def start_process(_: str, words: list[str]) -> mock.Mock:
+            begun.append(words)
+            return mock.Mock()
+
+        async def run_process(*_: object) -> tuple[int, str, bytes]:
             await drawn.wait()
             return 0, '', b'<html></html>\n'
-        with (mock.patch.multiple(pages, WAITED=0.01, put_behind=mock.Mock(), ran=ran),
-              mock.patch('e1gw.watcher.process.Child.start', lambda _, words, *files: mock.Mock(words=words))):
+        with mock.patch.multiple(pages, WAITED=0.01, put_behind=mock.Mock(), run_process=run_process,
+                                 start_process=start_process):
             page = pages.SlowPage(lambda: pages.picture_of(['--last', '60s', 'ring']))
             for _ in range(3):
                 self.assertIn(b'is being made', await page.fresh())
@@ -273,7 +275,7 @@ class WebPartTests(unittest.IsolatedAsyncioTestCase):
             while (found := await page.fresh()) == pages.SOON:
                 await asyncio.sleep(0)
         self.assertEqual((found, len(begun)), (b'<html></html>\n', 1))
-        self.assertEqual(begun[0].words[-3:], ['--last', '60s', 'ring'])
+        self.assertEqual(begun[0][-3:], ['--last', '60s', 'ring'])
 
 
 class WebTests(unittest.TestCase):
@@ -322,5 +324,5 @@ class WebTests(unittest.TestCase):
         self.assertIn('e1gw_trunk_up', self.get('/metrics'))
         for line in lines:
             line.close()
-        self.assertIn('answered', self.get('/table', 'text/plain; charset=utf-8'))
+        self.assertIn('answered', self.get('/', 'text/plain; charset=utf-8'))
         self.assertNotIn('exception', self.world.quit()[1])

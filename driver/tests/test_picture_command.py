@@ -95,10 +95,10 @@ class PictureCommandTests(FolderCase):
     def test_slips_that_the_driver_noted(self) -> None:
         folder = self.kept(('20231114T221320Z', self.octets, {'place': 1000}))
         page, _ = page_of(folder)
-        self.assertEqual(('>slips</text>' in page, 'e1gw-trunk noted' in page), (True, False))
+        self.assertEqual(('>slips</text>' in page, 'e1gw-watch noted' in page), (True, False))
         self.kept(('20231114T221320Z', self.octets, {'place': 1000, 'slips': [[129000, 0.25], [257000, 0.5]]}))
         page, _ = page_of(folder)
-        self.assertIn('e1gw-trunk noted 2 slips, first at 22:13:20.500: 0.750 s of the trunk were lost', page)
+        self.assertIn('e1gw-watch noted 2 slips, first at 22:13:20.500: 0.750 s of the trunk were lost', page)
         self.assertIn('22:13:21.250: 0.500 s were lost', page)     # (1.25 s, of which 0.25 are missing)
         self.assertNotIn('>slips</text>', page_of('--config', self.config, self.given)[0])
 

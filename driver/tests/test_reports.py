@@ -150,12 +150,13 @@ class ToldTests(unittest.TestCase):
         self.take(counts(2, 0, NotOpen=3))
         self.assertEqual(self.circuit(2)['datagrams'], {'sent': 0, 'admitted': 0, 'NotOpen': 3})
 
-    def test_what_was_refused_while_nobody_was_told(self) -> None:
+    def test_a_new_gateway(self) -> None:
+        """It has refused fewer than were refused before: those were of another one."""
         self.take(counts(1, 0, Late=1))
         self.again(row(1, 'idle', counts=(5, 2, 8)))
-        self.assertEqual(self.circuit()['datagrams'], {'sent': 5, 'admitted': 2, 'Late': 1, 'Unwatched': 7})
-        self.again(row(1, 'idle', counts=(1, 0, 2)))      # a new gateway
-        self.assertEqual(self.circuit()['datagrams'], {'sent': 1, 'admitted': 0, 'Unwatched': 2})
+        self.assertEqual(self.circuit()['datagrams'], {'sent': 5, 'admitted': 2, 'Late': 1})
+        self.again(row(1, 'idle', counts=(1, 0, 2)))
+        self.assertEqual(self.circuit()['datagrams'], {'sent': 1, 'admitted': 0})
 
     def test_counts_of_one_session_and_of_two(self) -> None:
         self.again(begun=0)

@@ -41,7 +41,7 @@ STATUS: dict[str, Any] = {
 CRC4 = {'aligned': True, 'submultiframes': 31, 'errored': 32, 'far_end_errored': 33, 'multiframes_found': 34,
         'multiframes_lost': 35, 'given_up': 36}
 CARD = {'span': 2, 'red': True, 'yellow': False, 'blue': False, 'recovering': False, 'loopback': True,
-        'not_open': False, 'block': 8, 'buffers': 4, 'events': 37}
+        'not_open': False, 'events': 37}
 FULL = STATUS | {
     'alarm': {'frame': False, 'multiframe': True}, 'remote_alarm': {'frame': True, 'multiframe': True}, 'stale': True,
     'clock': {'stalled': False, 'stalls': 23, 'gaps': 26, 'gap_seconds': 27.26, 'ppm': -28.6}, 'transport': CARD,
@@ -57,7 +57,6 @@ e1gw_alignment_losses_total{alignment="frame"} 21
 e1gw_alignment_losses_total{alignment="multiframe"} 22
 e1gw_trunk_stalled 0
 e1gw_trunk_stalls_total 23
-e1gw_connected{to="program"} 1
 e1gw_trunk_octets_total 512000
 e1gw_role 1
 e1gw_fed 0
@@ -65,15 +64,12 @@ e1gw_feed_age_seconds 29.5
 e1gw_trunk_gaps_total 26
 e1gw_trunk_rate_ppm -28.6
 e1gw_transport{what="span"} 2
-e1gw_transport{what="block"} 8
-e1gw_transport{what="buffers"} 4
 e1gw_transport{what="events"} 37
 e1gw_crc4_aligned 1
 e1gw_crc4_submultiframes_total 31
 e1gw_crc4_errored_total{end="this"} 32
 e1gw_crc4_errored_total{end="other"} 33
 e1gw_crc4_alignment_losses_total 35
-e1gw_crc4_given_up_total 36
 e1gw_circuit_state{circuit="7",role="incoming",state="answered"} 1
 e1gw_circuit_state{circuit="8",role="incoming",state="idle"} 1
 e1gw_circuit_drain{circuit="7"} 0
@@ -90,7 +86,6 @@ e1gw_rtp_packets_total{circuit="8",direction="sent"} 0
 e1gw_rtp_packets_total{circuit="8",direction="received"} 0
 e1gw_rtp_discarded_total{circuit="7",cause="Late"} 6
 e1gw_rtp_discarded_total{circuit="7",cause="Full"} 8
-e1gw_counts_stale 1
 e1gw_socket_dropped_total{circuit="7"} 14
 e1gw_commands_total{command="seize",answer="done"} 25
 e1gw_jitter_buffer_resyncs_total 24
@@ -102,7 +97,7 @@ TABLE = '''trunk west, e1gw 1.2, up 100 s
 2.0 s of the trunk at 00:01:40 UTC, loss of multiframe alignment; the other end: not heard
 alignment lost: frame 21, multiframe 22; stalls 23, slips 26 (27.3 s), rate -29 ppm
 two machines: the standby is not fed: its link; configured otherwise there: circuits 3, 4
-card: span 2, LOOPBACK, RED; 4 blocks of 8 frames, 1 ms each
+card: span 2, LOOPBACK, RED
 CRC-4: multiframe alignment, lost 35, of it 36 for 915 errored of 1000; errored 32 of 31 submultiframes, the other end \
 reports 33
 ended: json: no room
@@ -185,7 +180,7 @@ class TrunkTextTests(unittest.TestCase):
                 ({'role': 'active', 'fed': True, 'differs': []}, 3, 'two machines: the standby is fed'),
                 ({'transport': {'packets': 1}}, 3, metrics.COLUMNS), ({'transport': None}, 3, metrics.COLUMNS),
                 ({'transport': CARD | {'red': False, 'loopback': False, 'e_bits': 0, 'code_violations': 5}}, 3,
-                 'card: span 2, no alarm, code violations 5; 4 blocks of 8 frames, 1 ms each'),
+                 'card: span 2, no alarm, code violations 5'),
                 ({'crc4': CRC4 | {'aligned': False, 'given_up': 0}}, 3, 'CRC-4: no multiframe alignment, lost 35; '
                  'errored 32 of 31 submultiframes, the other end reports 33'),
                 ({'crc4': CRC4 | {'aligned': None, 'given_up': 0}}, 3, 'CRC-4: not counted yet, lost 35; errored 32 '

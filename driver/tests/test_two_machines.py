@@ -2,7 +2,6 @@
 which has all of 127.0.0.0/8: the addresses that move, too."""
 from __future__ import annotations
 
-import glob
 import json
 import os
 import re
@@ -11,58 +10,105 @@ import signal
 import socket
 import struct
 import subprocess
+import time
+from contextlib import suppress
 from typing import Any, Callable
 
-from . import support
+from . import limits, support
 from .hand_clock import HandClock
+from .holders import LONG
 from .keepers import CIRCUITS, KeeperCase
 from .logs import LogCopy
 from .support import SECONDS
 from .world import children, trunk_command, words_of
-from e1gw.watcher.feed import TICK
-from e1gw.watcher.standby import IN_TIME
+from e1gw.holder_state import TrunkPlaces
+from e1gw.log_folder import FolderReader, LogFiles
 from e1gw.session import MULTIFRAME, OCTETS_A_SECOND, packet_of
 from e1gw.testing.ports import free_port
 from e1gw.testing.service import answer_of, ask
+from e1gw.watcher.feed import TICK
 
 ADDRESSES = {'a': '127.0.0.11', 'b': '127.0.0.12'}      # of the machines
 TRUNK, SPEECH = '127.0.0.100', '127.0.0.101'            # of the trunk, wherever it is: SAToP and RTP
 OTHER_SPEECH = '127.0.0.102'                            # of a machine that has another one
 SILENCE = 1.0               # seconds: more than the jitter buffers have room for
 WAITS = 100                 # milliseconds that a takeover takes, besides what its processes have to do
-SIGNAL, SIGNALS = 0x9B, 64   # the octet with the frame alignment signal, and octets from one to the next
-SIZE, MANY = 1248, 16       # octets of a packet of SAToP, which no 50 to 68 multiframes fill; packets: few
+SIZE, MANY = 1248, 16       # octets of a packet of SAToP; packets: few
+
+
+class FollowedLog(LogCopy):
+    """The copy of a log that becomes that of a trunk."""
+
+    def goes_on(self, folder: str) -> None:
+        """The rest of it is in this folder."""
+        self.look()
+        files = LogFiles(folder)
+        self._test.addCleanup(files.close)
+        self._reader = FolderReader(files, self._reader.place)
+
+    def __init__(self, test: PairCase, folder: str) -> None:
+        super().__init__(test, folder)
+        self._test = test
 
 
 class Machine:
     """A machine, whose control is `ask`."""
 
-    def __init__(self, case: support.FolderCase, name: str, ports: dict[str, int], *words: str, **around: str) -> None:
+    def __init__(self, case: PairCase, name: str, ports: dict[str, int], *words: str, **around: str) -> None:
         self.name, self._case, memory = name, case, support.in_memory()
         case.addCleanup(memory.cleanup)
         case.addCleanup(self.power_off)
-        self._memory = memory.name
+        self.places = TrunkPlaces(os.path.join(memory.name, f'trunk-{os.getuid()}'))
         self.control, self._told, self._from = case.path(f'{name}.control'), case.path(f'{name}.told'), 0
-        feed, standby = (f'{ADDRESSES[each]}:{ports[each]}' for each in (name, 'ab'.replace(name, '')))
-        words += '--control', self.control, '--folder', memory.name, '--feed', feed, '--standby', standby
-        with open(self._told, 'wb') as told:
+        feed, fed_from = (f'{ADDRESSES[each]}:{ports[each]}' for each in (name, 'ab'.replace(name, '')))
+        words += '--name', 'trunk', '--standby', '--control', self.control, '--folder', memory.name, '--feed', feed, \
+            '--fed-from', fed_from
+        self._around, self._others = {**os.environ, **around}, list[subprocess.Popen[bytes]]()
+        with open(self._told, 'ab') as told:
             self.process = subprocess.Popen(trunk_command(*words), stderr=told, stdin=subprocess.DEVNULL,
-                                            env={**os.environ, **around})
-        self.awaits('is to be standby')
-        support.until(lambda: os.path.exists(self.control))
+                                            env=self._around)
+        self.answers()
+        self._words = words_of(self.watcher())
 
-    def log(self, name: str = 'log') -> LogCopy:
-        """The log of its program."""
-        def folder() -> str:
-            (first, *others) = glob.glob(f'{self._memory}/*/{name}') or ['']
-            return '' if others else first
-        copy = LogCopy(self._case, support.until(folder))
+    def answers(self) -> None:
+        """Until its watcher stands by. (One before it may have left its socket.)"""
+        def stands_by() -> bool:
+            with suppress(OSError):
+                return self.ask('role').startswith('standby')
+            return False
+        support.until(stands_by)
+
+    def watcher(self) -> int:
+        """Its watcher: the last one that was started."""
+        for each in self._others[-1:]:
+            return each.pid
+        (found,) = (pid for pid in children(self.process.pid) if words_of(pid)[1].endswith('e1gw-watch'))
+        return found
+
+    def pids(self) -> list[int]:
+        """Those that go by the clock."""
+        return [self.process.pid, self.watcher()]
+
+    def kill_watcher(self) -> None:
+        """It has none then."""
+        os.kill(pid := self.watcher(), signal.SIGKILL)
+        support.until(lambda: not words_of(pid))
+        os.unlink(self.control)
+
+    def watches_again(self) -> None:
+        """Another watcher in its place."""
+        with open(self._told, 'ab') as told:
+            self._others.append(subprocess.Popen(self._words, stderr=told, stdin=subprocess.DEVNULL, env=self._around))
+
+    def log(self, folder: str = '') -> FollowedLog:
+        """The log of its program, or another one."""
+        copy = FollowedLog(self._case, folder or self.places.log)
         copy.look()
         return copy
 
-    def fed_log(self) -> LogCopy:
+    def fed_log(self) -> FollowedLog:
         """The log that it is fed."""
-        return self.log('fed-*')
+        return self.log(self.places.fed)
 
     def told(self) -> str:
         return support.text_of(self._told)
@@ -76,34 +122,36 @@ class Machine:
     def ask(self, command: str) -> str:
         return ask(self.control, command.encode())
 
-    def asks(self, word: str) -> Callable[[], str]:
-        """Asks it, and goes on; returns what waits for the answer."""
-        line = support.connected(self.control)
+    def asks(self, word: str, path: str = '') -> Callable[[], str]:
+        """Asks it, or its holder, and goes on; returns what waits for the answer."""
+        self.socket = line = support.connected(path or self.control)
         self._case.addCleanup(line.close)
         line.sendall(f'{word}\n'.encode())
-        return lambda: answer_of(line)
-
-    def process_of(self, word: str) -> int:
-        """The process of it that has this subcommand, if need be waited for."""
-        return support.until(lambda: next(iter(children(self.process.pid, word)), 0))
+        return lambda: line.makefile('r').readline().strip() if path else answer_of(line)
 
     def power_off(self, link_down: bool = False) -> None:
         """Nothing of it goes on. With its link down its connections end for nobody."""
         if self.process.poll() is None:
             self.process.send_signal(signal.SIGSTOP)
             support.until(lambda: support.state_of(self.process.pid) in 'TZ')       # (it starts no other one)
-            for pid in (pids := children(self.process.pid)):
+            pids = {*children(self.process.pid), *(each.pid for each in self._others)}
+            if link_down:
+                os.kill(watcher := self.watcher(), signal.SIGSTOP)
+                pids -= {watcher}
+            for pid in pids:
                 os.kill(pid, signal.SIGKILL)
             support.until(lambda: not any(words_of(pid) for pid in pids))
             if not link_down:
                 self.process.kill()
                 self.process.wait(SECONDS)
+        for each in self._others if not link_down else []:
+            each.wait(SECONDS)
 
 
 class PairCase(KeeperCase):
     """A trunk in lock step with thirty calls, whose peers speak by the trunk's time, and two machines."""
 
-    copy: LogCopy               # of the log of the one that carries it
+    copy: FollowedLog           # of the log of the one that carries it
 
     def setUp(self) -> None:
         super().setUp()
@@ -111,18 +159,19 @@ class PairCase(KeeperCase):
         self.device.listener.listen(8)
         self.text = f'host = "{SPEECH}"\n' + self.peers.config().replace(']]\n', ']]\nprefill = 1200\n')
         self.config, self.speech_to = self.write('trunk.toml', self.text), SPEECH
-        # Where the link of a machine is down its service stands still here, and has its sockets.
+        # Where the link of a machine is down its holder stands still here, and has its sockets.
         self.other_config = self.write('other.toml', self.text.replace(SPEECH, OTHER_SPEECH))
         self.ports = {name: free_port(address) for name, address in ADDRESSES.items()}
         self.clock = HandClock(self.path('clock'))
 
     def machine(self, name: str, config: str = '', *more: str, **within: Any) -> Machine:
-        words = '--config', config or self.config, '--program-control', self.path(f'{name}.program'), *self.trunk
-        return Machine(self, name, self.ports, *words, *more, **self.within(**within), **self.clock.around)
+        words = '--config', config or self.config, *self.trunk
+        around = limits.around(LONG | limits.TELLS | {'holder.roles.MOST_AGE': limits.LONG} | within)
+        return Machine(self, name, self.ports, *words, *more, **around, **self.clock.around)
 
     def promoted(self, machine: Machine) -> None:
         """It carries the trunk from now on."""
-        self.control = f'{machine.name}.program'
+        self.control = machine.places.control
         self.assertEqual(machine.ask('promote'), 'promote: done', machine.told())
         self.device.accept()
 
@@ -149,9 +198,9 @@ class PairCase(KeeperCase):
     def takes_over(self, machine: Machine, since: float, until: float, by: Machine | None = None) -> None:
         """A machine takes over, as it is asked to, or `by` another one that is asked to hand over. Octets came last
         between these times, and it gets ones for as long. Up to its first octet services wait for WAITS at most."""
-        began, self.control = self.clock.now(), f'{machine.name}.program'
+        began, self.control = self.clock.now(), machine.places.control
         answer = by.asks('move') if by else machine.asks('promote')
-        services = [each.process.pid for each in (machine, by) if each]
+        services = [pid for each in (machine, by) if each for pid in each.pids()]
 
         def come(line: socket.socket) -> int:
             return self.clock.steps(lambda: select.select([line], [], [], 0)[0], *services)
@@ -165,7 +214,8 @@ class PairCase(KeeperCase):
         now = self.clock.now()
         self.clock.goes_on(*services)
         self.take(1)
-        ones = int(machine.awaits(r'promoted: program \d+ goes on after .*, (\d+) of them ones')[1])
+        ones = int(machine.awaits(r'the trunk is taken: behind octet \d+, (\d+) of them ones')[1])
+        self.copy.goes_on(machine.places.log)
         self.assertGreaterEqual(ones, (began - until) * OCTETS_A_SECOND - MULTIFRAME)
         self.assertLessEqual(ones, (now - since) * OCTETS_A_SECOND + MULTIFRAME)
         self.now += ones // MULTIFRAME          # (the peers speak by the trunk's time)
@@ -207,18 +257,18 @@ class TwoMachinesTests(PairCase):
         a, b = self.calls_with_standby(b=self.machine('b', self.other_config))
         self.copy, log = b.fed_log(), a.log()
         self.step(60)
-        since, pids = self.clock.stops(), [each.process.pid for each in (a, b)]
-        self.is_fed(log, *pids)
-        b.process.send_signal(signal.SIGSTOP)
+        since = self.clock.stops()
+        self.is_fed(log, *a.pids(), *b.pids())
+        os.kill(b.watcher(), signal.SIGSTOP)
         self.step(4)
         fed, until = log.look(), self.clock.now() + 3 * TICK
-        self.clock.steps(lambda: self.clock.now() > until - 0.001, *pids[:1])
-        a.process.send_signal(signal.SIGSTOP)
-        support.until(lambda: support.state_of(a.process.pid) == 'T')
+        self.clock.steps(lambda: self.clock.now() > until - 0.001, *a.pids())
+        os.kill(a.watcher(), signal.SIGSTOP)
+        support.until(lambda: support.state_of(a.watcher()) == 'T')
         self.step(2)                    # (these are lost)
         a.power_off(link_down=True)
         self.clock.stops(SILENCE)
-        b.process.send_signal(signal.SIGCONT)
+        os.kill(b.watcher(), signal.SIGCONT)
         support.until(lambda: self.copy.look() == fed)
         self.speech_to = OTHER_SPEECH
         self.takes_over(b, since, until)
@@ -231,7 +281,7 @@ class TwoMachinesTests(PairCase):
         support.until(lambda: b.ask('role') == 'active, fed')       # (it hears of that later than the standby)
         since = self.clock.stops()
         for _ in range(2):
-            self.is_fed(log, a.process.pid, b.process.pid)
+            self.is_fed(log, *a.pids(), *b.pids())
         self.speech_to = SPEECH
         self.takes_over(a, since, self.clock.now(), by=b)
         log.look()
@@ -243,7 +293,7 @@ class TwoMachinesTests(PairCase):
         a = self.machine('a')
         b = self.machine('b', '', '--unix', self.path('nowhere'))
         self.calls_with_standby(a=a, b=b)
-        with support.stopped(b.process.pid):
+        with support.stopped(b.watcher()):
             self.assertEqual(a.ask('move'), 'move: refused: no standby is fed here')
             self.up_again()
         self.fed(b)
@@ -254,102 +304,120 @@ class TwoMachinesTests(PairCase):
         self.device.accept()
         self.assertEqual(answer(), 'move: refused: the standby did not take the trunk, and this machine carries it '
                          'again')
-        self.device.exchange.aligned = False
-        self.step(68)
-        self.assertEqual(self.device.exchange.signals, self.up())
+        self.goes_on_unaligned()
 
     def drained(self, machine: Machine) -> list[str | None]:
         """What it says of circuits 7 and 8."""
         return [row['drain'] for row in json.loads(machine.ask('status json'))['circuits'][6:8]]
 
     def test_a_standby_is_replaced(self) -> None:
-        """Another service in its place stands by, is fed, can take over, and has what the operator has blocked."""
+        """Another watcher in the place of its one is fed, can take over, and has what the operator has blocked."""
         a, b = self.calls_with_standby()
         self.assertRegex(a.ask('drain 7-8'), 'blocked once their calls have ended: circuits 7-8\ndrain 7-8: done')
         self.assertEqual(b.ask('drain 9'), 'drain 9: the other machine is to carry the trunk')
         support.until(lambda: self.drained(b) == ['drains', 'drains'])
-        b.process.send_signal(signal.SIGUSR2)
-        b.awaits('is to be standby')
+        b.kill_watcher()
+        b.watches_again()
+        b.answers()
         self.assertEqual(a.ask('undrain 8'), 'undrain 8: done')
         self.fed(b)
         a.power_off()
         self.promoted(b)
         self.assertEqual(self.drained(b), ['drains', None])
+        self.goes_on_unaligned()
+
+    def goes_on_unaligned(self) -> None:
+        """The far end finds alignment again, and no call has ended."""
         self.device.exchange.aligned = False
         self.step(68)
         self.assertEqual(self.device.exchange.signals, self.up())
 
+    def test_a_watcher_that_is_dead(self) -> None:
+        """Who says it to the holder itself has the trunk with what was fed up to then."""
+        a, b = self.calls_with_standby()
+        b.kill_watcher()
+        a.power_off()
+        answer = b.asks('take', b.places.hold)
+        self.device.accept()
+        self.control = b.places.control
+        self.assertEqual(answer(), 'take: done')
+        self.assertNotIn('begin anew', b.told())
+        self.goes_on_unaligned()
+
+    def test_watchers_killed_on_both_sides(self) -> None:
+        """The next ones feed, and are fed, and the trunk is moved."""
+        a, b = self.calls_with_standby()
+        for each in b, a:
+            each.kill_watcher()
+            self.step(20)
+            each.watches_again()
+        b.answers()
+        support.until(lambda: os.path.exists(a.control))
+        self.fed(b)
+        support.until(lambda: a.ask('role') == 'active, fed')
+        answer = a.asks('move')
+        self.device.accept()
+        self.control = b.places.control
+        self.assertEqual(answer(), 'move: done')
+        self.goes_on_unaligned()
+
 
 class SatopNumberTests(PairCase):
-    """Over SAToP, with a socket as the far end: the packets go on at the other machine."""
+    """Over SAToP, with a socket as the far end: the numbers of packets go on at the other machine. (By the time, which
+    a machine that stalls does not keep: so what is reckoned is tried elsewhere.)"""
 
     def setUp(self) -> None:
         super().setUp()
-        self.packets, self.waits, self.line = list[bytes](), 0, socket.socket(socket.AF_INET, socket.SOCK_DGRAM)
+        self.packets, self.line = list[int](), socket.socket(socket.AF_INET, socket.SOCK_DGRAM)
         self.addCleanup(self.line.close)
-        self.line.setsockopt(socket.SOL_SOCKET, socket.SO_RCVBUF, 8 << 20)     # (for a program that begins late)
         self.line.bind(('127.0.0.1', 0))
-        self.near = TRUNK, free_port(TRUNK, socket.SOCK_DGRAM)
-        self.trunk = ['--satop', f'{TRUNK}:{self.near[1]},127.0.0.1:{self.line.getsockname()[1]}', '--satop-size',
-                      str(SIZE), '--satop-jitter', '0']
+        self.near, self.due, self.waits = (TRUNK, free_port(TRUNK, socket.SOCK_DGRAM)), 0.0, 0
+        self.trunk = ['--satop', f'{TRUNK}:{self.near[1]},127.0.0.1:{self.line.getsockname()[1]},size={SIZE},jitter=0']
 
-    def come(self) -> list[bytes]:
-        """Takes the packets that have come, and sends one, unless none has come for MANY: more do not wait there."""
+    def come(self) -> None:
+        """Takes the packets that have come, and sends one that is due, unless none has come for MANY: more do not wait
+        there."""
         self.waits += 1
         while select.select([self.line], [], [], 0)[0]:
-            self.packets.append(self.line.recv(2048))
+            self.packets.append(int.from_bytes(self.line.recv(2048)[2:4], 'big'))
             self.waits = 0
-        if self.waits < MANY or not self.waits % 256:       # (those before may be lost)
+        if time.monotonic() >= self.due and (self.waits < MANY or not self.waits % 256):
             self.line.sendto(struct.pack('>HH', 0, self.now & 0xffff) + bytes(SIZE), self.near)
-            self.now += 1
-        return self.packets
+            self.now, self.due = self.now + 1, time.monotonic() + SIZE / OCTETS_A_SECOND
 
     def goes(self, holds: Callable[[], object]) -> None:
         """Packets come and go until something holds."""
-        support.until(lambda: [self.come()] and holds(), 0.001)
+        while not holds():
+            self.come()
+            time.sleep(0.001)
 
-    def is_taken_over(self, machine: Machine, answer: Callable[[], str], *services: int) -> int:
-        """A machine takes over, as was asked when the clock stood. The octet of the trunk behind which it goes on."""
-        count = machine.told().count('promoted: ')
-        self.clock.steps(lambda: [self.come()] and machine.told().count('promoted: ') > count, *services)
-        self.clock.goes_on(*services)
-        octets = int(machine.awaits(r'promoted: .* behind octet (\d+), \d+ of them ones')[1])
+    def does(self, machine: Machine, word: str, taker: Machine) -> None:
+        """Does it, and packets of the one that takes the trunk come."""
+        count = taker.told().count('the trunk is taken: ')
+        answer = machine.asks(word)
+        self.goes(lambda: taker.told().count('the trunk is taken: ') > count)
+        self.goes(lambda: select.select([machine.socket], [], [], 0)[0])
+        self.assertEqual(answer(), f'{word}: done')
         count = len(self.packets) + MANY
         self.goes(lambda: len(self.packets) > count)
-        self.assertIn(': done', answer())
-        return octets
 
-    def numbers(self, packets: list[bytes]) -> list[int]:
-        """From that of the first packet of all."""
-        first, *_ = (int.from_bytes(packet[2:4], 'big') for packet in self.packets)
-        return [int.from_bytes(packet[2:4], 'big') - first & 0xffff for packet in packets]
-
-    def are_from(self, octets: int, packets: list[bytes]) -> None:
-        """They are those from this octet of the trunk on, each of them, behind ones, with signals in their places."""
-        self.assertEqual(self.numbers(packets), [octets // SIZE + n for n in range(len(packets))])
-        ones = octets % SIZE
-        self.assertEqual(packets[0][4:4 + ones], b'\xff' * ones)
-        self.assertEqual({*b''.join(packet[4:] for packet in packets)[ones + -octets % SIGNALS::SIGNALS]}, {SIGNAL})
+    def goes_on_at(self, machine: Machine) -> None:
+        """The packets of a machine begin with the number that was reckoned."""
+        first = int(machine.awaits(r'the trunk is taken: behind octet .*, packet (\d+) next')[1])
+        begun = json.loads(support.text_of(f'{machine.places.satop}.ends'))
+        self.assertEqual(begun['first'], first)
+        self.assertIn(first, self.packets)
 
     def test_packets_go_on(self) -> None:
-        configs = {'a': self.config, 'b': self.other_config}
-        a, b = (self.machine(*each, process_LOOK=1e3) for each in configs.items())  # (what is stopped is not killed)
-        pids, promotes = [each.process.pid for each in (a, b)], a.asks('promote')
-        self.goes(lambda: len(self.packets) > MANY and b.ask('role') == 'standby, fed')
-        self.assertEqual(promotes(), 'promote: done')
-        self.clock.stops()                                  # it is moved in order: none is lost
-        octets = self.is_taken_over(b, a.asks('move'), *pids)
-        first = self.numbers(self.packets).index(octets // SIZE)
-        self.are_from(0, self.packets[:first])
-        self.are_from(octets, self.packets[first:])
-        self.goes(lambda: re.search('(?<!not )fed by', a.told()))       # (until then it knows what it had itself)
-        self.clock.stops()                                  # the machine dies
-        log, fed = b.log(), a.fed_log()
-        os.kill(b.process_of('satop'), signal.SIGSTOP)      # (it sends nothing more)
-        self.clock.steps(lambda: fed.look() == log.look(), *pids)
+        """In a move, and when a machine has died, which has other numbers than this one by itself."""
+        a, b = (self.machine(*each) for each in {'a': self.config, 'b': self.other_config}.items())
+        self.does(a, 'promote', a)
+        self.goes(lambda: b.ask('role') == 'standby, fed' and a.ask('role') == 'active, fed')
+        self.does(a, 'move', b)
+        self.goes_on_at(b)
+        self.goes(lambda: a.ask('role') == 'standby, fed')
+        for path in a.places.satop, f'{a.places.satop}.ends':       # (so it knows none itself)
+            os.unlink(path)
         b.power_off(link_down=True)
-        first = len(self.come())
-        self.clock.stops(IN_TIME)
-        self.are_from(self.is_taken_over(a, a.asks('promote'), *pids[:1]), self.packets[first:])
-        before, after = self.numbers(self.packets[first - 1:first + 1])
-        self.assertIn(after - before, range(int(IN_TIME * OCTETS_A_SECOND) // SIZE, 100))   # (room of a jitter buffer)
+        self.does(a, 'promote', a)
+        self.goes_on_at(a)

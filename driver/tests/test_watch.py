@@ -10,7 +10,7 @@ from types import SimpleNamespace
 from typing import Any
 from unittest import mock
 
-from . import limits, support
+from . import support
 from .test_reports import BEGIN, counts, row
 from e1gw.call_names import CallNames
 from e1gw.calls import CallLog, CallsNote
@@ -19,7 +19,6 @@ from e1gw.events import (Burst, CallsCleared, Event, FlowChanged, Flows, RateCha
                          WatchEnded)
 from e1gw.lines import Role, State
 from e1gw.resyncs import Resyncs
-from e1gw.service import trunk
 from e1gw.watcher import decisions, events, status, watch
 from e1gw.watcher.commands import MOST_HELD, ControlPeer
 from e1gw.watcher.connection import ProgramConnection
@@ -91,7 +90,6 @@ class WatchEdgeTests(TrunkWatchCase):
                 told = [json.loads(call.args[0])['event'] for call in follower.tell.mock_calls]
                 self.assertEqual(told, ['state', 'lost', 'alarm'])
                 self.assertIn("the watch of the trunk goes on: KeyError: 'odd' (", ''.join(logs.output))
-                self.assertTrue(any(each.exc_info for each in logs.records))
 
     async def test_refused_datagrams_restart_their_call(self) -> None:
         """By what the program tells of them."""
@@ -218,18 +216,6 @@ class WatchEdgeTests(TrunkWatchCase):
 
 class WatchPartTests(unittest.IsolatedAsyncioTestCase):
     now = 1.0
-
-    def test_a_pause_grows(self) -> None:
-        """Of what ends soon, up to a second: however often a device could not be opened, it is taken soon behind
-        that. What has gone for longer is begun again at once."""
-        clock, most = SimpleNamespace(monotonic=lambda: self.now), limits.USUAL['service.trunk.MOST_PAUSE']
-        with mock.patch.multiple(trunk, MOST_PAUSE=most, time=clock):
-            pause = trunk.Pause()
-            self.assertEqual(pause.ends(), 0.0)
-            pause.begins()
-            self.assertEqual([pause.ends() for _ in range(5)], [0.25, 0.5, 1.0, 1.0, 1.0])
-            self.now += trunk.QUICK
-            self.assertEqual(pause.ends(), 0.0)
 
     def test_levels_of_syslog(self) -> None:
         """Each line has its level; elsewhere the name of the program."""

@@ -16,13 +16,14 @@ from typing import Any, Callable
 
 from . import limits, support
 from .holders import HolderCase
-from .keepers import KeeperCase
+from .keepers import CIRCUITS
 from .support import SECONDS, octets_in
 from e1gw.exchange import IDLE
+from e1gw.holder_state import STARTED_BY, TrunkPlaces
 from e1gw.session import Command
 from e1gw.testing.ports import free_port
 from e1gw.testing.service import ask
-from e1gw.watcher.memo import note_in
+from e1gw.watcher.memo import WatchNote, note_in
 from e1gw.watcher.note import NoteFiles
 
 
@@ -56,8 +57,17 @@ class WatcherCase(HolderCase):
                 **os.environ, **limits.around(limits.TELLS | within)}))
         return process
 
+    def note(self) -> WatchNote | None:
+        """What the watcher has noted."""
+        return note_in(NoteFiles(self.places.watch).read())
+
     def ask(self, words: str) -> str:
         return ask(self.path('ctl'), words.encode())
+
+    def called(self) -> list[list[str]]:
+        """The lines of calls, without the head."""
+        with open(self.path('calls.csv'), encoding='utf-8', newline='') as file:
+            return [*csv.reader(file)][1:]
 
     def known(self, holds: Callable[[dict[str, Any]], object] = lambda status: True) -> dict[str, Any]:
         """The status, once this holds of it. The program tells at the next octets."""
@@ -69,18 +79,6 @@ class WatcherCase(HolderCase):
                     return status
             self.step()
             time.sleep(pause := min(2 * pause, 0.25))
-
-
-# Keys of a status that differ from one run to another; `waiting` is known to who has the line.
-APART = {'time', 'uptime', 'life', 'program_since', 'for', 'open', 'waiting', 'trunk', 'port', 'http', 'calls_file',
-         'events_file', 'clock', 'octets', 'jitter_ms', 'socket', 'datagrams', 'call', 'seized', 'answered'}
-
-
-def plain(value: Any) -> Any:
-    """A status, or an event, without what differs from one run to another."""
-    if isinstance(value, dict):
-        return {key: plain(each) for key, each in value.items() if key not in APART}
-    return [plain(each) for each in value] if isinstance(value, list) else value
 
 
 def events_in(path: str, *without: str) -> list[dict[str, Any]]:
@@ -97,35 +95,28 @@ class WatcherShowsTests(WatcherCase):
         self.device.exchange.pairs[2] = IDLE
         self.known(lambda status: status['circuits'][1]['state'] == 'idle')
 
-    def shown(self) -> tuple[dict[str, Any], list[Any]]:
-        """What is shown of it: status, and events but for when they came; first those of what is beside the calls,
-        which has no place among them."""
-        its = plain([{**each, 'place': 0} for each in events_in(self.path('events'))])
-        status = self.known()
-        status['calls'] = [(each['circuit'], each['direction'], each['codec']) for each in status['calls']]
-        beside = 'connected', 'trunk'
-        return plain(status), sorted(
-            its, key=lambda each: beside.index(name) if (name := each['event']) in beside else len(beside))
-
-    def test_as_the_service(self) -> None:
-        """Status and events are those that e1gw-trunk shows of the same session."""
-        KeeperCase.starts(self, *self.shows(), **limits.around(limits.TELLS))
-        self.session()
-        its = self.shown()
-        KeeperCase.ends(self)
-        calls = support.whole_lines(self.path('calls.csv'))
-        self.setUp()
+    def test_a_session(self) -> None:
+        """Each change of each line is told once, each call has a line, and all octets are kept."""
         self.starts_holder()
         self.watches('--session', self.path('session'))
         self.device.accept()
         self.goes_on()
         self.session()
-        mine = self.shown()
-        self.assertEqual(mine[0], its[0])
-        self.assertEqual(mine[1], its[1])
         self.assertEqual(self.ask('quit'), 'quit: done')
         self.assertEqual([self.keeper.wait(SECONDS), self.watchers[0].wait(SECONDS)], [0, 0])
-        self.assertEqual(len(support.whole_lines(self.path('calls.csv'))), len(calls))
+        told = events_in(self.path('events'))
+        for circuit in CIRCUITS:
+            states = [each['state'] for each in told if each['event'] == 'state' and each['circuit'] == circuit]
+            way = ['acked', 'answered'] if circuit % 2 else ['seized', 'acked', 'answered']
+            self.assertEqual([each for each in states[:-2 if circuit == 2 else None] if each not in ('fault', 'idle')],
+                             way)
+            self.assertEqual(states[-2:] == ['releasing', 'idle'], circuit == 2)
+        self.assertIn({'circuit': 2, 'command': 'clear', 'answer': 'done'}, [
+            {key: each[key] for key in ('circuit', 'command', 'answer')} for each in told
+            if each['event'] == 'command'])
+        rows = self.called()
+        self.assertEqual(sorted(int(row[1]) for row in rows), [*CIRCUITS])
+        self.assertEqual([(row[1], row[6]) for row in rows if row[6] != 'stop'], [('2', 'gateway')])
         self.assertEqual(octets_in(support.octets_of(self.path('session'))), octets_in(b''.join(self.given)))
         self.assertEqual(os.listdir(self.memory), [])
 
@@ -146,10 +137,10 @@ class WatcherShowsTests(WatcherCase):
         self.assertEqual(self.ask('unblock 3'), 'unblock 3: done')
         self.assertEqual(self.ask('clear 2'), 'clear 2: done')
         self.assertIn(' 2 outgoing', self.ask('status 2'))
-        for path, words in ('metrics', 'e1gw_trunk_up{trunk="trunk"} 1\n'), ('table', 'trunk trunk, e1gw '):
+        for path, words in ('metrics', 'e1gw_trunk_up{trunk="trunk"} 1\n'), ('', 'trunk trunk, e1gw '):
             with urllib.request.urlopen(f'http://127.0.0.1:{port}/{path}', timeout=SECONDS) as page:
                 self.assertIn(words, page.read().decode())
-        self.assertEqual(self.ask('role'), 'role: there is no other machine')
+        self.assertEqual(self.ask('role'), 'role: there is no other machine (--feed, --fed-from)')
         self.assertEqual(self.ask('reload'), 'reload: done')
         self.goes_on()
         self.write('trunk.toml', 'x = 1\n')
@@ -175,8 +166,8 @@ class WatcherShowsTests(WatcherCase):
         """It does not wait for another one."""
         words = [*self.watcher_words(), '--config', self.config, '--folder', self.memory, '--program',
                  support.program()]
-        with subprocess.Popen(['sh', '-c', f'{shlex.join(words)} & echo $!; exec sleep 900'], stdout=subprocess.PIPE,
-                              env={**os.environ, 'NOTIFY_SOCKET': self.manager.path}) as holder:
+        with subprocess.Popen(['sh', '-c', f'{STARTED_BY}=$$ {shlex.join(words)} & echo $!; exec sleep 900'],
+                              stdout=subprocess.PIPE, env={**os.environ, 'NOTIFY_SOCKET': self.manager.path}) as holder:
             assert holder.stdout
             watcher = int(holder.stdout.readline())
             support.until(lambda: 'WATCHDOG=1' in self.manager.told())
@@ -198,6 +189,30 @@ class WatcherShowsTests(WatcherCase):
         support.until(lambda: os.path.exists(path) and os.stat(path).st_ino != before)
         self.assertEqual(self.watches().wait(SECONDS), 2)
         self.assertIsNone(first.poll())
+
+
+    def test_of_a_folder_that_moves(self) -> None:
+        """It ends, and the next one is where the holder is; it ends with that, too."""
+        name = f'moves{os.getpid()}'
+        usual, other = (TrunkPlaces(os.path.join(within, f'{name}-{os.getuid()}')) for within in (
+            self.memory, os.path.dirname(support.launcher('trunk'))))     # (tests/start)
+        self.places, self.control = usual, usual.control
+        refuses = f'case "$*" in *" {usual.log} "*) echo cannot open the log of the trunk >&2; exit 1;; esac'
+        program = self.scripted(f'if test -e {self.path("full")}; then {refuses}; fi')
+        self.begins('--name', name, '--program', program)
+        first = self.watches('--name', name)
+        self.known()
+        self.write('full', '')
+        os.kill(self.program, signal.SIGKILL)
+        self.awaits('from now on')
+        self.goes_on_all()
+        self.assertEqual(first.wait(SECONDS), 1)
+        self.assertIn(f'the folder of the trunk is {other.folder} from now on', support.text_of(self.path('watched')))
+        self.watches('--name', name)
+        self.known(lambda status: {row['state'] for row in status['circuits']} == {'answered'})
+        self.as_uncut()
+        self.ends()
+        self.assertEqual(self.watchers[-1].wait(SECONDS), 0)
 
 
 # A watcher each of whose reads of the log fails while a file `fails` is there.
@@ -224,36 +239,52 @@ class WatcherUnheardTests(WatcherCase):
         text = FAILING.format(driver=os.path.join(support.TOP, 'driver'), path=self.path('fails'))
         return [sys.executable, '-B', self.write('failing', text)]
 
-    def dies(self, number: int = signal.SIGKILL) -> None:
-        os.kill(self.program, number)
-        self.goes_on_all()
-
-    def test_killed_and_stopped(self) -> None:
-        """A program dies behind each."""
-        self.begins()
-        first = self.watches()
-        self.known()
-        first.kill()
-        first.wait()
-        self.dies()
-        second = self.watches()
-        self.known()
-        with support.stopped(second.pid):
-            self.dies()
-            self.step(50)
-            self.dies()
-        self.known(lambda status: {row['state'] for row in status['circuits']} == {'answered'})
+    def ten_deaths(self) -> None:
+        """Of the program, a reload and another holder in place of this one."""
+        for number in (signal.SIGKILL, signal.SIGTERM) * 5:
+            self.dies(number)
+        for word in 'reload', 'replace':
+            self.assertEqual(self.asks(word), f'{word}: done')
+            self.goes_on_all()
         self.as_uncut()
-        self.ends()
-        self.assertEqual(second.wait(SECONDS), 0)
 
-    def test_each_read_of_the_log_fails(self) -> None:
-        """It is told once, and what the program tells is shown; once they do all is as it was."""
+    def begins_to_be_watched(self) -> None:
+        self.within = {'holder.decisions.DEATHS': 1 << 30}      # (no program waits)
         self.begins()
-        self.write('fails', '')
+        self.watches()
+        self.known(lambda status: {row['state'] for row in status['circuits']} == {'answered'})
+
+    def test_absent(self) -> None:
+        self.within = {'holder.decisions.DEATHS': 1 << 30}
+        self.begins()
+        self.ten_deaths()
+        self.ends()
+
+    def test_killed(self) -> None:
+        """And the next one knows all calls."""
+        self.begins_to_be_watched()
+        self.watchers[-1].kill()
+        self.ten_deaths()
         self.watches()
         self.known(lambda status: {row['state'] for row in status['circuits']} == {'answered'})
         self.dies()
+        self.as_uncut()
+        self.ends()
+        self.assertEqual(self.watchers[-1].wait(SECONDS), 0)
+
+    def test_stopped(self) -> None:
+        self.begins_to_be_watched()
+        with support.stopped(self.watchers[-1].pid):
+            self.ten_deaths()
+        self.known(lambda status: {row['state'] for row in status['circuits']} == {'answered'})
+        self.ends()
+        self.assertEqual(self.watchers[-1].wait(SECONDS), 0)
+
+    def test_each_read_of_the_log_fails(self) -> None:
+        """It is told once, and what the program tells is shown; once they do all is as it was."""
+        self.write('fails', '')
+        self.begins_to_be_watched()
+        self.ten_deaths()
         self.known(lambda status: {row['state'] for row in status['circuits']} == {'answered'})
         self.assertEqual(support.text_of(self.path('watched')).count('the log cannot be read'), 1)
         os.unlink(self.path('fails'))
@@ -266,11 +297,6 @@ class WatcherUnheardTests(WatcherCase):
 
 
 class WatcherAgainTests(WatcherCase):
-    def called(self) -> list[list[str]]:
-        """The lines of calls, without the head."""
-        with open(self.path('calls.csv'), encoding='utf-8', newline='') as file:
-            return [*csv.reader(file)][1:]
-
     def test_nothing_twice_and_nothing_missed(self) -> None:
         """Of calls that end while nobody watches, beside the deaths of a program."""
         self.starts_holder()
@@ -311,7 +337,7 @@ class WatcherAgainTests(WatcherCase):
 
     def is_noted(self) -> bool:
         """Whether it was told, and noted, that the trunk is open."""
-        note = note_in(NoteFiles(self.places.watch).read())
+        note = self.note()
         return bool(note and note.held.holder and note.held.holder.open) and \
             'trunk' in {each['event'] for each in events_in(self.path('events'))}
 

@@ -28,7 +28,7 @@ from e1gw.watcher.said import LineNote, SaidFile, SaidLine, SaidNote
 from e1gw.watcher.status import ToldNote
 from e1gw.watcher.watch import ShownNote
 
-STATE = HolderState(INTERFACE, '0.1.0', 7, 8, 9, 5.0, 'begins', False, True, 4.0, '', (), '0.1.0', 'host', False,
+STATE = HolderState(INTERFACE, '0.1.0', 7, 8, 9, 5.0, 'begins', False, True, 4.0, '', 0, (), '0.1.0', 'host', False,
                     ACTIVE, '/dev/e1', ('--crc4', '--live', '--seizure-wait', '700'), '')
 OPENED = TrunkOpened('/dev/e1', {'trunk': '/dev/e1'})
 
@@ -62,8 +62,8 @@ class WatchNoteTests(unittest.TestCase):
     def test_all_of_it(self) -> None:
         """It is read as it was noted; what is none, or of another version, is none."""
         note = WatchNote(
-            HeldNote(STATE, '8.9', 512, 'ab', LineNote(SaidNote(3, 4), SaidNote(), Crc4Note({'errored': 1}, None, {}),
-                                                       SlotsNote(False, 1, 2, 3)), 1),
+            HeldNote(STATE, '8.9', 512, 8, 'ab', LineNote(SaidNote(3, 4), SaidNote(), Crc4Note(
+                {'errored': 1}, None, {}), SlotsNote(False, 1, 2, 3)), 8, 1),
             ReadingNote(1, 2, 3, ((4, 5.0),), 6.0),
             ToldNote(True, 1.0, (True, False) * 2, (1, 2), Flow(1, 2.0, 3.0, 4)),
             ShownNote((('trunk open', 1.0),), (('alarm frame', 'LFA', 2.0),), ('a,b',)), {1: 'DRAINED'},

@@ -140,7 +140,7 @@ class LineFileTests(support.FolderCase):
 
     def test_a_full_file_is_moved_away(self) -> None:
         self.assertIn(f'A file of {MOST_OCTETS >> 20} MiB is renamed', support.text_of(
-            f'{support.TOP}/dist/man/e1gw-trunk.1'))
+            f'{support.TOP}/dist/man/e1gw-watch.1'))
         for kind, head in ('calls', ','.join(FIELDS) + '\n'), ('events', ''):
             with mock.patch.object(events, 'MOST_OCTETS', len(head) + 25):
                 file = EventFile(kind, self.path(kind), lambda _, why: self.fail(why), head.strip())

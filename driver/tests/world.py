@@ -16,6 +16,7 @@ from typing import Any, Callable, Mapping, Self
 
 from . import limits, support
 from .support import SECONDS
+from e1gw.holder.options import FLAGS, TEXTS
 from e1gw.exchange import ACKNOWLEDGED, ANSWERED, IDLE, SEIZED
 from e1gw.session import MULTIFRAME
 from e1gw.testing.ports import free_ports
@@ -26,8 +27,14 @@ ANSWERS_AFTER = 20          # multiframes
 
 
 def trunk_command(*words: str) -> list[str]:
-    """The command line of an e1gw-trunk."""
-    return [sys.executable, '-B', LAUNCHER, '--program', support.program(), *words]
+    """The command line of an e1gw-trunk, and behind -- those of these options that e1gw-watch has, which it starts."""
+    its, watch = list[str](), list[str]()
+    into = its
+    for word in words:
+        if word.startswith('--'):
+            into = its if word[2:].partition('=')[0] in (*TEXTS, *FLAGS, 'help') else watch
+        into.append(word)
+    return [sys.executable, '-B', LAUNCHER, '--program', support.program(), *its, '--', *watch]
 
 
 def words_of(pid: int) -> list[str]:
@@ -98,7 +105,7 @@ class World:
             try:
                 if self.ask_at_once(NO_EFFECT) == NO_EFFECT_ANSWER and self.known()['program']:
                     return
-            except (FileNotFoundError, ConnectionRefusedError, EOFError):
+            except (OSError, EOFError):
                 time.sleep(0.01)
             else:
                 self.give(b'\xff' * MULTIFRAME)
@@ -189,6 +196,11 @@ class World:
         (before,) = support.until(lambda: children(self.process.pid, *words))
         os.kill(before, number)
         support.until(lambda: {*children(self.process.pid, *words)} - {before})
+
+    def watcher(self) -> int:
+        """The e1gw-watch of this trunk."""
+        return support.until(lambda: next((pid for pid in children(self.process.pid) if 'e1gw-watch' in ' '.join(
+            words_of(pid)[:3])), 0))
 
     def step(self, multiframes: int = 1) -> None:
         """Multiframes to and fro."""

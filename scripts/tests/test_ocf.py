@@ -34,11 +34,8 @@ class AgentTests(unittest.TestCase):
             os.chmod(self.write(name, SYSTEMCTL if name == 'systemctl' else '#!/bin/sh\n'), 0o755)
         with open(AGENT, encoding='utf-8') as file:
             self.agent = self.write('agent', file.read().replace('/run/e1gw/$OCF_RESKEY_trunk/', f'{self.folder}/'))
-        self.asked, self.trunk = list[str](), socket.socket(socket.AF_UNIX)
-        self.addCleanup(self.trunk.close)
-        self.trunk.bind(os.path.join(self.folder, 'control'))
-        self.trunk.listen(8)
-        threading.Thread(target=self.answer, daemon=True).start()
+        self.asked = list[str]()
+        self.watcher = self.listens('control')
 
     def write(self, name: str, text: str) -> str:
         path = os.path.join(self.folder, name)
@@ -46,11 +43,19 @@ class AgentTests(unittest.TestCase):
             file.write(text)
         return path
 
-    def answer(self) -> None:
-        """The trunk is active, and moves."""
+    def listens(self, name: str) -> socket.socket:
+        """A socket at which the trunk is active, and moves."""
+        its = socket.socket(socket.AF_UNIX)
+        self.addCleanup(its.close)
+        its.bind(os.path.join(self.folder, name))
+        its.listen(8)
+        threading.Thread(target=self.answer, args=(its,), daemon=True).start()
+        return its
+
+    def answer(self, listener: socket.socket) -> None:
         while True:
             try:
-                line = self.trunk.accept()[0]
+                line = listener.accept()[0]
             except OSError:
                 return
             self.asked.append(asked := line.recv(100).decode().strip())
@@ -70,7 +75,16 @@ class AgentTests(unittest.TestCase):
         """It was killed; its program carries the trunk, which no monitor ends, and a demotion moves."""
         again = 'deactivating', 'activating', 'activating', 'active'
         self.assertEqual([self.does('monitor', *again), self.does('demote', *again)], [ACTIVE, 0])
-        self.assertEqual(self.asked, ['role', 'move'])
+        self.assertEqual(self.asked, ['role', 'role', 'move'])
+
+    def test_no_watcher_answers(self) -> None:
+        """The holder has a role, and is asked itself."""
+        os.mkdir(os.path.join(self.folder, 'west-987'))
+        self.listens('west-987/hold')
+        os.unlink(os.path.join(self.folder, 'control'))
+        self.write('west-987/holder', '{"role": "active", "trunk": "x"}')
+        self.assertEqual([self.does(each, 'active') for each in ('monitor', 'promote', 'demote')], [ACTIVE, 0, 0])
+        self.assertEqual(self.asked, ['take', 'release'])
 
     def test_a_unit_that_is_not_there(self) -> None:
         """One failure is counted, by the monitor: three of them ban a machine."""

@@ -57,7 +57,7 @@ class Units(unittest.TestCase):
 
     def test_removal_stops_all(self) -> None:
         """Each kind of unit is stopped, ties before the trunks that they command."""
-        self.assertEqual(self.units(), ['e1gw-tie@*.service', 'e1gw-trunk@*.service'])
+        self.assertEqual(self.units(), ['e1gw-tie@*.service', 'e1gw-trunk@*.service', 'e1gw-watch@*.service'])
         self.assertEqual(asked('prerm', 'remove'), ['deb-systemd-invoke', 'stop', *self.units(), *CLEANS])
 
     def test_upgrade_stops_none(self) -> None:
@@ -70,20 +70,22 @@ class Units(unittest.TestCase):
         self.assertEqual(asked('postinst', 'configure')[:4], ['py3compile', '-p', 'e1gw', '/usr/lib/e1gw'])
 
     def test_a_reload_is_asked_for(self) -> None:
-        """The unit that is reloaded asks for it, and fails where it is refused; a signal would say nothing."""
+        """The unit that is reloaded asks the holder for it, and fails where it is refused; a signal would say nothing,
+        and there may be no watcher to ask."""
         found = {}
         for name in (unit.replace('@*', '@') for unit in self.units()):
             with open(os.path.join(TOP, 'dist', 'system', name), encoding='utf-8') as unit:
                 found[name] = re.findall('(?m)^ExecReload=(.*)$', unit.read())
-        self.assertEqual(found, {'e1gw-tie@.service': [], 'e1gw-trunk@.service': [
-            '/usr/bin/e1gw-ctl /run/e1gw/%i/control reload']})
+        self.assertEqual(found, {'e1gw-tie@.service': [], 'e1gw-watch@.service': [], 'e1gw-trunk@.service': [
+            """/bin/sh -c 'exec /usr/bin/e1gw-ctl "$$RUNTIME_DIRECTORY/%i-$$(id -u)/hold" reload'"""]})
 
     def test_an_update_names_what_runs_on(self) -> None:
         """Only where there was a version before, and only while units run."""
         running = 'e1gw-tie@west.service loaded active running\ne1gw-trunk@west.service loaded active running\n'
         said = run('postinst', ('configure', '0.0.9'), running)[1]
         self.assertIn('before: e1gw-tie@west.service e1gw-trunk@west.service', said)
-        self.assertIn('end no call: systemctl reload e1gw-trunk@west.service \n', said)
+        self.assertIn('systemctl reload e1gw-trunk@west.service \n', said)
+        self.assertIn('systemctl restart e1gw-tie@west.service \n', said)
         self.assertNotIn('reload', run('postinst', ('configure', '0.0.9'), running.splitlines()[0])[1])
         self.assertEqual(run('postinst', ('configure', '0.0.9'), '')[1], '')
         self.assertEqual(run('postinst', ('configure', ''), running)[1], '')

@@ -6,15 +6,18 @@ needs is kept by systemd: the line first, the sockets, the program, what was tri
 nothing is ever adopted, and the folder may vanish.
 
 A turn (`holder.py`) looks at what is there and does what is due. What follows: a start, `starting.py`; the end of a
-program, `ending.py` by `decisions.py`; a reload, `reloading.py`; a line that cannot be opened, `line.py`.
+program, `ending.py` by `decisions.py`; a reload, `reloading.py`; a line that cannot be opened, `line.py`; a role of
+two machines, `roles.py`.
 
 FOLDER is WITHIN/NAME-UID. Others know of a trunk by
 
   WITHIN/NAME-UID.lock  the holder has it locked, and is named in it
   FOLDER/holder         what is held, as JSON (`holder_state.py`)
   FOLDER/hold           a socket, which takes a word on a line: reload, reload force, renew, replace, quit, take,
-                        release, version. A line answers: `WORD: done`, `WORD: refused: WHY` or `unknown`
+                        take NUMBER (of the next packet, of a line that has packets), release, version. A line
+                        answers: `WORD: done`, `WORD: refused: WHY` or `unknown`
   FOLDER/said           what the program of now says
   FOLDER/config, tried  the configuration that runs, in which names are addresses; what was tried, as JSON
   FOLDER/program, tell, log/    the program's sockets and its log
-  FOLDER/role           active or standby, once it was to take or to release the trunk"""
+  FOLDER/role           active or standby, once it was to take or to release the trunk
+  FOLDER/fed/           while it stands by: what is known of the trunk, a log, which becomes that of the trunk"""

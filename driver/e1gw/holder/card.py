@@ -1,5 +1,5 @@
 """The events of a DAHDI card. While one waits all reads and writes fail, so they are taken at once. (Who shows alarms
-asks the card for them.)"""
+asks the driver for them.)"""
 from __future__ import annotations
 
 import os
@@ -21,6 +21,7 @@ class Card:
 
     def __init__(self, channel: DahdiChannel, loop: Loop) -> None:
         self._channel, self._loop, self._is_gone = channel, loop, False
+        self.span = span_of(channel)
         loop.watch(channel.file, self.take_events, select.POLLPRI)
 
     def take_events(self) -> None:
@@ -43,6 +44,14 @@ class Card:
     def close(self) -> None:
         """Watches it no more."""
         self._loop.leave(self._channel.file)
+
+
+def span_of(channel: DahdiChannel) -> int:
+    """The number of its span; 0 if the card is gone."""
+    try:
+        return channel.facts().span
+    except OSError:
+        return 0
 
 
 def card_of(file: int, loop: Loop) -> Card | None:

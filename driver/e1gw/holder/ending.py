@@ -101,7 +101,6 @@ def go_back(holder: Holder) -> None:
     say(Severity.ERROR, f'reload: refused, the version before comes back: {holder.why}')
     holder.versions.goes_back()
     holder.settle('reload', f'the version before comes back: {holder.why}')
-    holder.store.say('READY=1')
     holder.why = 'the version before comes back'
 
 
@@ -112,7 +111,7 @@ def finish(holder: Holder, why: str, status: int) -> None:
     holder.reloads.close()
     for word in {each.word for each in holder.requests}:
         holder.settle(word, why)
-    is_kept = bool(holder.options.state and is_there(f'{holder.folder}/log')) and not save(holder)
+    is_kept = bool(holder.options.is_saved and is_there(f'{holder.folder}/log')) and not save(holder)
     holder.status = 1 if is_kept else status
     holder.line.close()
     holder.sockets.keep(())

@@ -1,16 +1,8 @@
-"""Files in memory, and small ones that are read again."""
+"""Small files that are read again."""
 from __future__ import annotations
 
 import json
-import os
 from typing import Any
-
-def in_memory(octets: bytes) -> int:
-    """A file in memory that has these octets."""
-    file = os.memfd_create('e1gw')
-    with open(file, 'wb', closefd=False) as its:
-        its.write(octets)
-    return file
 
 
 def plain_in(path: str) -> dict[str, Any]:

@@ -19,10 +19,12 @@ from .options import Options
 from .program import HeldProgram, start_of
 from .reloading import Reloads
 from .requests import Door, HolderRequest
+from .roles import CHANGES, change_role, give_log
 from .sockets import HeldSockets
 from .starting import start, up
 from .store import Store
 from .version import Versions
+from .watcher_child import WatcherChild
 
 TICK, SOON = 0.24, 0.002    # seconds between two looks while nothing happens, and while something is to come
 LAGS = 0.01                 # .. while systemd has no room for what it is told
@@ -40,6 +42,7 @@ class Holder:
         self.versions, self.reloads = Versions(None), Reloads(self)
         self.door = Door(loop, self.asked)
         self.program: HeldProgram | None = None
+        self.watcher: WatcherChild | None = None
         self.reason, self.requests = EndReason.NONE, list[HolderRequest]()  # why it is to end; who waits for another
         self.ending, self.status = '', None     # type: str, int | None
         self.is_active = True                   # this holder is to have the trunk
@@ -105,8 +108,15 @@ class Holder:
             finish(self, self.ending, 0)
         elif self.is_active:
             self._bring_up(now)
-        elif self.line.is_opening and self.line.look(now):
+        else:
+            self._stand_by(now)
+
+    def _stand_by(self, now: float) -> None:
+        """Has a version ready: calls wait once it takes the trunk."""
+        if self.line.is_opening and self.line.look(now):
             self.line.close()               # (it was opened too late)
+        if not self.versions.now and now >= self.due:
+            self.reloads.first()
 
     def _bring_up(self, now: float) -> None:
         """Goes towards a program, if there is none: a version, the line, a start."""
@@ -130,6 +140,8 @@ class Holder:
     def _tick(self, now: float) -> None:
         """A few times a second."""
         self.store.tell('WATCHDOG=1')
+        if self.watcher:
+            self.watcher.step(now)
         if self.versions.before and self.versions.trial and now >= self.versions.trial.until:
             self.versions.stays()
             self.sockets.keep(self.versions.addresses())
@@ -195,8 +207,8 @@ class Holder:
                 self.requests.append(request)
             case 'renew':
                 request.refused('no program carries the trunk')
-            case 'take' | 'release':
-                self._change_role(request, now)
+            case words if CHANGES.fullmatch(words):
+                change_role(self, request, now)
             case 'quit':
                 request.done()
                 self.end('quit')
@@ -205,37 +217,24 @@ class Holder:
             case _:
                 request.answer('unknown')
 
-    def _change_role(self, request: HolderRequest, now: float) -> None:
-        """It is to have the trunk from now on, or not."""
-        is_active = request.word == 'take'
-        put_file(f'{self.folder}/role', (ACTIVE if is_active else STANDBY).encode(), 0o640)
-        if is_active == self.is_active and (not is_active or self.program and self.program.is_up):
-            return request.done()
-        self.is_active = is_active
-        self.requests.append(request)
-        if is_active:
-            self.due, self.silent = now, now
-        elif self.program:
-            self.want(EndReason.RELEASE, now)
-        else:
-            self.release()
-        self.tell()
-
     def release(self) -> None:
-        """The other machine carries the trunk."""
+        """The other machine carries the trunk, unless it was taken back meanwhile."""
         self.line.close()
         self.sockets.keep(())
-        self.log.close()                    # (who is fed makes another one)
-        self.keep()
-        self.waits('it does not have the trunk')
+        if not self.is_active:
+            give_log(self)
+            self.keep()
+            self.waits('it does not have the trunk')
+            for word in 'reload', 'renew', 'take':
+                self.settle(word, 'the trunk was released')
         self.settle('release')
-        for word in 'reload', 'renew', 'take':
-            self.settle(word, 'the trunk was released')
 
     def settle(self, word: str, refused: str = '') -> None:
         """Answers those who have waited for this."""
         its = [each for each in self.requests if each.word == word]
         self.requests = [each for each in self.requests if each.word != word]
+        if its and refused and word == 'reload':
+            self.store.say('READY=1')           # (systemd waits for the end of it, too)
         for each in its:
             if refused:
                 each.refused(refused)
@@ -260,9 +259,9 @@ class Holder:
         pid, its = program.pid if program else 0, version.its if version else None
         state = HolderState(
             INTERFACE, VERSION, os.getpid(), pid, start_of(pid) if pid else 0, self.since, self.why,
-            bool(self.lost), bool(line.files), line.since, line.fault, (*sorted(self.sockets.lacking),),
-            its.name if its else '', its.senders if its else '', self.versions.before is not None,
-            ACTIVE if self.is_active else STANDBY, self.options.line.trunk,
+            bool(self.lost), bool(line.files), line.since, line.fault, line.card.span if line.card else 0,
+            (*sorted(self.sockets.lacking),), its.name if its else '', its.senders if its else '',
+            self.versions.before is not None, ACTIVE if self.is_active else STANDBY, self.options.line.trunk,
             self.options.words, self.options.state)
         try:
             put_file(f'{self.folder}/holder', state.spell(), 0o640)

@@ -9,7 +9,8 @@ import sys
 import time
 from typing import Any, Collection, Mapping
 
-from .files import in_memory
+from ..memory import in_memory
+
 
 SECONDS, PATIENCE = 10.0, 30.0      # for the program to check a configuration, and for names; for all of it
 SOON = 0.002                # seconds between two looks at one that is waited for

@@ -30,6 +30,7 @@ class HeldLine:
         self.reads, self.writes = (f'{each}-{zlib.crc32(options.trunk.encode()):08x}' for each in self.ends)
         self.files = {name: files[name] for name in (self.reads, self.writes) if name in files}
         self.fault, self.since = '', time.time()        # why it is not open; since when it is, or is not
+        self.number: int | None = None          # of the first packet, if it has packets and that was said
         self.card: Card | None = None
         self._openings = Openings()
         self._thread: threading.Thread | None = None

@@ -82,6 +82,13 @@ def remove(folder: str) -> None:
         os.rmdir(folder)
 
 
+def rename_over(folder: str, other: str) -> None:
+    """A folder of files, if it is there, takes the place of another one."""
+    if os.path.isdir(folder):
+        remove(other)
+        os.rename(folder, other)
+
+
 def put_aside(folder: str) -> None:
     """A log of which nothing can be had gives way to a new one."""
     remove(f'{folder}.damaged')

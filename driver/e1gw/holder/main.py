@@ -5,6 +5,7 @@ import os
 import signal
 import stat
 import sys
+import time
 from typing import NoReturn
 
 from ..fault_words import options_words, words_of_fault
@@ -22,12 +23,15 @@ from .loop import Loop
 from .options import HELP, Options, OptionsRefused, options_of
 from .program import HeldProgram, taken
 from .requests import HolderRequest
+from .roles import give_log
 from .satop_line import SatopLine
 from .sockets import NAME as SOCKETS
 from .store import Store
 from .version import Version, tried_in, version_of
+from .watcher_child import WatcherChild
 
 AGAIN = 0.25                # seconds before what cannot be had yet is tried again
+FAILED, REST = 1, 0.5       # the status of what may fail again; seconds before systemd begins the next one, at once
 
 
 def main(words: list[str] | None = None) -> NoReturn:
@@ -48,9 +52,11 @@ def main(words: list[str] | None = None) -> NoReturn:
     holder = Holder(options, store, line(options.line, store.files, loop), loop)
     holder.lock = lock
     begin(holder)
-    start_watcher(options, store)
+    holder.watcher = watcher_of(options, store, loop)
     status = holder.run()
     let_go(holder.lock, f'{options.folder}.lock')
+    if status == FAILED and store.has_manager:
+        time.sleep(REST)
     os._exit(status)
 
 
@@ -91,7 +97,7 @@ def begin(holder: Holder) -> None:
     """Goes on where the holder before this one has left, or from what was saved, or anew."""
     store, options, log = holder.store, holder.options, f'{holder.folder}/log'
     has_log = is_there(log) or bool(holder.log.files)
-    how = beginning_of('child' in store.was, has_log, bool(options.state) and os.path.exists(options.state))
+    how = beginning_of('child' in store.was, has_log, options.is_saved and os.path.exists(options.state))
     holder.is_active = is_active(options.is_standby, word_in(f'{holder.folder}/role'), bool(holder.line.files))
     holder.why, holder.was_up = str(how.value), how in (Beginning.REPLACED, Beginning.KILLED)
     if version := version_left(holder, how):
@@ -109,6 +115,8 @@ def begin(holder: Holder) -> None:
             holder.line.since = plain_in(f'{holder.folder}/holder').get('opened', holder.line.since)
     elif how is Beginning.SAVED:
         load(holder)
+    if not holder.is_active:
+        give_log(holder)
     close_rest(holder)
     holder.listen()                         # (before it is known: who knows it may ask)
     if not holder.is_active:
@@ -131,18 +139,16 @@ def version_left(holder: Holder, how: Beginning) -> Version | None:
     return None
 
 
-def start_watcher(options: Options, store: Store) -> None:
-    """Starts e1gw-watch(1), where no systemd does. It ends with the trunk, and nothing here depends on it."""
+def watcher_of(options: Options, store: Store, loop: Loop) -> WatcherChild | None:
+    """The e1gw-watch(1) of this trunk, where no systemd starts one."""
+    if options.watch is None or store.has_manager:
+        return None
     path = os.path.join(os.path.dirname(os.path.abspath(sys.argv[0])), 'e1gw-watch')
-    if options.watch == 'no' or store.has_manager or store.was or not os.path.exists(path):
-        return
-    import shlex
-    words = [path, '--config', options.config, '--name', options.name, '--program', options.program, '--folder',
-             os.path.dirname(options.folder), *shlex.split(options.watch)]
-    try:
-        os.posix_spawn(path, words, os.environ, setsigmask=[], setsigdef=[signal.SIGPIPE])
-    except OSError as fault:
-        say(Severity.ERROR, f'e1gw-watch is not started: {words_of_fault(fault, path)}')
+    watcher = WatcherChild([path, '--config', options.config, '--name', options.name, '--program', options.program,
+                            '--folder', os.path.dirname(options.folder), *options.watch], loop)
+    if pid := store.was.get('watcher'):
+        watcher.take_up(pid)
+    return watcher
 
 
 def replaced(holder: Holder) -> None:

@@ -10,6 +10,7 @@ from ..trunks import Stream, host_and_port, open_tcp, open_unix
 NAME, MEMORY = 'e1gw-trunk', '/dev/shm'
 MOST_PATH, LONGEST = 107, 'program.new'     # octets of the path of a socket; the longest one in the folder
 HELP = f'''usage: {NAME} --config FILE (--in FILE --out FILE | --unix PATH | --tcp HOST:PORT | --satop ENDS) [OPTION..]
+                  [-- WATCH_OPTION..]
 
 Holds an E1 trunk: it opens the line, binds the circuits' sockets, and keeps a program on them that carries it, e1gw(1).
 If it ends, the program ends with it, and the next one goes on with all calls.
@@ -32,18 +33,19 @@ If it ends, the program ends with it, and the next one goes on with all calls.
   --seizure-wait MS     a seizure that is not acknowledged is released then, 200 to 8000 [default: 200]
   --state FILE          the state is saved there at the end, and loaded at the start if it is there
   --standby             does not begin with the trunk, but once it is to take it
-  --watch OPTIONS       further options of the e1gw-watch(1) that is started, too, where no systemd is; `no` starts none
+  --alone               starts no e1gw-watch(1); else one is started, too, where no systemd is, and has the options
+                        behind --
 
 Signals: SIGHUP reload; SIGUSR2 another process in place of this one; SIGTERM, SIGINT end.
 Statuses: 0 ended as asked, or with the trunk's input; 1 the trunk or the program failed; 2 the command line or the
 configuration, or another one holds the trunk.
 '''
 TEXTS = ('config', 'name', 'program', 'folder', 'in', 'out', 'unix', 'tcp', 'satop', 'blocks', 'senders', 'repeat',
-         'seizure-wait', 'state', 'watch')
-FLAGS = 'reopen', 'clear', 'align', 'crc4', 'standby'
+         'seizure-wait', 'state')
+FLAGS = 'reopen', 'clear', 'align', 'crc4', 'standby', 'alone'
 SENDERS = 'any', 'first', 'host', 'peer'
-SATOP = ('size', 'jitter', 'rtp', 'fill', 'clock')      # options of e1gw satop
-SATOP_DEFAULTS = {'size': '256'}
+SATOP = {'size': range(32, 1281, 32), 'jitter': range(501), 'rtp': range(128)}      # options of e1gw satop
+CLOCKS = 'packets', 'own'
 
 
 class OptionsRefused(Exception):
@@ -65,7 +67,7 @@ class LineWants:
 
 @dataclass(frozen=True)
 class Options:
-    """What is asked for. `words` are options of each program."""
+    """What is asked for. `words` are options of each program, `watch` those of e1gw-watch; None if none is started."""
 
     config: str
     program: str
@@ -77,18 +79,24 @@ class Options:
     wait: int
     state: str
     is_standby: bool
-    watch: str
+    watch: tuple[str, ...] | None
+
+    @property
+    def is_saved(self) -> bool:
+        """Whether the state is: not of two machines, of which the other one may have gone on from it."""
+        return bool(self.state) and not self.is_standby
 
 
 def options_of(words: list[str], around: Mapping[str, str]) -> Options:
     """Those of a command line. OptionsRefused says what is wrong with it."""
     try:
-        return _options_of(read(words), around)
+        rest = [*words, '--'].index('--')
+        return _options_of(read(words[:rest]), words[rest + 1:], around)
     except ValueError as fault:
         raise OptionsRefused(str(fault)) from None
 
 
-def _options_of(asked: Mapping[str, str], around: Mapping[str, str]) -> Options:
+def _options_of(asked: Mapping[str, str], watch: list[str], around: Mapping[str, str]) -> Options:
     if not asked['config']:
         raise OptionsRefused('--config is wanted')
     config = os.path.abspath(asked['config'])
@@ -106,7 +114,7 @@ def _options_of(asked: Mapping[str, str], around: Mapping[str, str]) -> Options:
     program = program_of(asked['program'], around)
     return Options(config, program, name, folder, line_of(asked, program, folder), words_of(asked, wait),
                    senders, wait, asked['state'] and os.path.abspath(asked['state']), bool(asked['standby']),
-                   asked['watch'])
+                   None if asked['alone'] else (*watch,))
 
 
 def read(words: list[str]) -> dict[str, str]:
@@ -115,7 +123,8 @@ def read(words: list[str]) -> dict[str, str]:
     for word in rest:
         name, equals, value = word.removeprefix('--').partition('=')
         if not word.startswith('--') or name not in asked:
-            raise OptionsRefused(f'{word}: no such option')
+            where = 'are WATCH=' if 'E1GW_OPTIONS' in os.environ else 'stand behind --'
+            raise OptionsRefused(f'{word}: no option of {NAME}; those of e1gw-watch(1) {where}')
         if name in FLAGS:
             value = 'yes'
         elif not equals:
@@ -192,12 +201,16 @@ def satop_of(text: str) -> tuple[str, ...]:
     near, far, *more = [*text.split(','), '']
     for each in near, far:
         host_and_port(each)
-    asked = dict(SATOP_DEFAULTS)
+    asked = {'size': '256'}
     for each in filter(None, more):
         name, _, value = each.partition('=')
-        if name not in SATOP or not value:
-            raise OptionsRefused(f'--satop has {each}, and knows {", ".join(SATOP)}')
         asked[name] = value
-    if not asked['size'].isdecimal() or int(asked['size']) not in range(32, 1281, 32):
-        raise OptionsRefused('size= of --satop is 32 to 1280, a multiple of 32')
+        if name == 'clock' and value in CLOCKS:
+            continue
+        if name not in SATOP:
+            raise OptionsRefused(f'--satop has {each}, and knows {", ".join(SATOP)}, and clock= packets or own')
+        its = SATOP[name]
+        if not (value.isascii() and value.isdecimal() and int(value) in its):
+            raise OptionsRefused(f'{name}= of --satop is {its[0]} to {its[-1]}' + (
+                f', a multiple of {its.step}' if its.step > 1 else ''))
     return (near, far, *(word for name, value in asked.items() for word in (f'--{name}', value)))

@@ -13,8 +13,8 @@ from dataclasses import dataclass
 from math import inf
 from typing import Sequence
 
+from ..memory import in_memory
 from .decisions import EndFault
-from .files import in_memory
 
 NO_RECORD = bytes(4)        # the program closes the connection for that, and logs nothing
 MOST_SAID = 1 << 20         # octets of what it says that are kept

@@ -13,6 +13,7 @@ from .ending import finish
 from .job import Job
 from .journal import Severity, say
 from .requests import HolderRequest
+from .starting import put_version
 from .version import Version, tried_in, version_of
 
 if TYPE_CHECKING:
@@ -67,7 +68,7 @@ class Reloads:
         options = self._holder.options
         self._program = program = os.open(options.program, os.O_RDONLY | os.O_CLOEXEC)
         asked = {'what': 'try', 'program': program, 'config': options.config, 'senders': options.senders,
-                 'wait': options.wait, 'log': f'{self._holder.folder}/log', 'force': request.text.endswith(' force'),
+                 'wait': options.wait, 'log': self._log(), 'force': request.text.endswith(' force'),
                  'before': vars(before.its) if before else None, 'program_before': before.program if before else -1}
         try:
             self._job = Job(asked, [program, before.program] if before else [program])
@@ -75,6 +76,10 @@ class Reloads:
             os.close(program)
             raise
         self._request = request
+
+    def _log(self) -> str:
+        """What is known of the trunk."""
+        return f'{self._holder.folder}/{"log" if self._holder.is_active else "fed"}'
 
     def look(self, now: float) -> None:
         """Does what follows a trial."""
@@ -106,6 +111,7 @@ class Reloads:
             holder.due = now
         else:                               # (there is nothing to go back to)
             holder.versions.stays()
+            put_version(holder, version)
             holder.keep()
             if request.word == 'reload':
                 holder.store.say('READY=1')
@@ -158,7 +164,8 @@ class Reloads:
         client = request.detach()
         files = {**holder.kept(), **holder.line.files, 'leash': program.leash, 'said': program.said,
                  'lock': holder.lock} | ({'client': client} if client >= 0 else {})
-        holder.store.become_next(files, {'child': program.pid, 'since': holder.since, 'line': holder.line.note()})
+        holder.store.become_next(files, {'child': program.pid, 'since': holder.since, 'line': holder.line.note(),
+                                         'watcher': holder.watcher.pid if holder.watcher else 0})
 
     def close(self) -> None:
         """Ends what is tried."""

@@ -11,30 +11,20 @@ import time
 from contextlib import contextmanager, suppress
 from typing import Any, Iterator, Mapping
 
+from ..satop_numbers import ENDS, begun_in, lines_in, number_of_now
 from ..writers import put_file
 from .decisions import Openings
-from .files import plain_in
 from .journal import Severity, say
 from .line import HeldLine
 from .loop import Loop
 from .options import LineWants
 from .program import end_words, fields_of
 
-OCTETS_A_SECOND, MULTIFRAME = 256_000, 512
+MULTIFRAME = 512
 ONES = b'\xff' * 2 * MULTIFRAME         # behind which frame alignment is looked for again
 ANEW = 0.2                  # seconds for the far end to take its packets as a new stream
 GRACE, SOON = 1.0, 0.005    # seconds for the process to send what it was given last; between two looks
 ENDED, BROKEN = 'the trunk has ended', 'the trunk cannot be read or written'
-
-
-def next_number(first: int, lines: list[str], seconds: float, size: int) -> int:
-    """The number of the next packet behind those of a process that began with the first one: by how many it said last
-    that it had sent, and the seconds since. (A few more or less are within the window of the far end.)"""
-    sent = 0
-    for line in lines:
-        words = dict(word.partition('=')[::2] for word in line.split()[1:]) if line.startswith('satop ') else {}
-        sent = int(words['sent']) if words.get('sent', '').isdecimal() else sent
-    return first + sent + round(max(0.0, seconds) * OCTETS_A_SECOND / size) & 0xffff
 
 
 class SatopLine(HeldLine):
@@ -47,6 +37,7 @@ class SatopLine(HeldLine):
         self._pid, self._file = 0, -1
         self._restarts, self._why, self._lacked = Openings(), '', False
         self._ones_due = 0.0            # when the far end is given ones, if it is to be
+        self._path = f'{options.folder}/satop'      # of what the process says
         super().__init__(options, files, loop)
 
     @property
@@ -55,9 +46,6 @@ class SatopLine(HeldLine):
 
     def kept(self) -> dict[str, int]:
         return {}
-
-    def _path(self, name: str) -> str:
-        return f'{self.options.folder}/{name}'
 
     @property
     def due(self) -> float:
@@ -69,7 +57,7 @@ class SatopLine(HeldLine):
     def opened(self) -> Mapping[str, int]:
         """Looks both ends up, unless that is known, and makes the pair."""
         from ..satop import addresses_of, ends_of
-        before = plain_in(self._path('satop.ends'))
+        before = begun_in(self._path)
         near, far, *words = self.options.satop
         known = before.get('words', []) if before.get('asked') == [*self.options.satop] else []
         self._words = known or [*addresses_of(*ends_of(f'{near},{far}')), *words]
@@ -86,13 +74,12 @@ class SatopLine(HeldLine):
     def _start(self, now: float) -> None:
         """Starts the process, or lets it be started later."""
         from ..satop import can_send
-        path, size = self._path('satop'), int(self._words[self._words.index('--size') + 1])
-        number = self._next_number(size)
+        number = self._next_number()
         self._lacked, self._restarts = not can_send(self._words), self._restarts.with_one(now)
         try:
-            put_file(f'{path}', b'', 0o640)
-            put_file(f'{path}.ends', self._text(number).encode(), 0o640)
-            said = os.open(f'{path}', os.O_RDWR | os.O_APPEND | os.O_CLOEXEC)
+            put_file(self._path, b'', 0o640)
+            put_file(f'{self._path}{ENDS}', self._text(number).encode(), 0o640)
+            said = os.open(self._path, os.O_RDWR | os.O_APPEND | os.O_CLOEXEC)
         except OSError:
             said = os.memfd_create('e1gw-satop')
         try:
@@ -111,25 +98,13 @@ class SatopLine(HeldLine):
     def _text(self, number: int) -> str:
         return json.dumps({'asked': [*self.options.satop], 'words': self._words, 'first': number})
 
-    def _next_number(self, size: int) -> int:
-        """With which the process begins: behind those of the one before it."""
-        path, before = self._path('satop'), plain_in(self._path('satop.ends'))
-        first = before.get('first')
-        if not isinstance(first, int):
-            return int.from_bytes(os.urandom(2))
-        try:
-            since = time.time() - os.stat(f'{path}').st_mtime
-            return next_number(first, self._lines(), since, size)
-        except OSError:
-            return first
-
-    def _lines(self) -> list[str]:
-        """What the process has said."""
-        try:
-            with open(f'{self._path("satop")}', encoding='utf-8', errors='replace') as file:
-                return file.read().splitlines()
-        except OSError:
-            return []
+    def _next_number(self) -> int:
+        """With which the process begins: as was said, or behind those of the one before it."""
+        given, self.number = self.number, None
+        if given is not None:
+            return given
+        before = number_of_now(self._path)
+        return before.number if before else int.from_bytes(os.urandom(2))
 
     def _watch(self) -> None:
         self._file = os.pidfd_open(self._pid)
@@ -170,7 +145,7 @@ class SatopLine(HeldLine):
         status, now = self._reap(), time.monotonic()
         if status is None:
             return
-        words, self._restarts = f'e1gw satop {end_words(status, self._lines())}', self._restarts.with_end(now)
+        words, self._restarts = f'e1gw satop {end_words(status, lines_in(self._path))}', self._restarts.with_end(now)
         if status >= 0 and not (status and self.options.reopens):
             self._why = f'{BROKEN}: {words}' if status else ENDED
             return shut(self.files[self.writes])    # (the program is given what has come, and ends behind that)

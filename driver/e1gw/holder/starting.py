@@ -16,6 +16,7 @@ from .journal import Severity, say
 from .log import has_log, user_of
 from .options import MEMORY
 from .program import HeldProgram, ProgramWants
+from .version import Version
 
 if TYPE_CHECKING:
     from .holder import Holder
@@ -33,14 +34,10 @@ def start(holder: Holder, now: float) -> None:
     make_folder(holder)
     if waits_for_log(holder, now):
         return
-    if holder.log.put_back(f'{holder.folder}/log'):
-        say(Severity.WARNING, 'the log was gone, and is put back')
+    put_back_log(holder)
     bind(holder, now)
     holder.line.begin(now)
-    config = version.its.config(holder.sockets.lacking)
-    with suppress(OSError):                 # (a folder that is full: then they are those before)
-        put_file(f'{holder.folder}/config', config.encode(), 0o640)
-        put_file(f'{holder.folder}/tried', version.its.text().encode(), 0o640)
+    config = put_version(holder, version)
     said = said_in(holder.folder)
     try:
         holder.program = HeldProgram.started(ProgramWants(
@@ -51,6 +48,27 @@ def start(holder: Holder, now: float) -> None:
         os.close(said)
         raise
     holder.loop.watch(holder.program.file, lambda: None)
+
+
+def put_back_log(holder: Holder) -> None:
+    """The log, if it is gone; in another folder, if this one has no room for it."""
+    try:
+        is_back = holder.log.put_back(f'{holder.folder}/log')
+    except OSError as fault:
+        if not move_folder(holder, words_of_fault(fault)):
+            raise
+        is_back = holder.log.put_back(f'{holder.folder}/log')
+    if is_back:
+        say(Severity.WARNING, 'the log was gone, and is put back')
+
+
+def put_version(holder: Holder, version: Version) -> str:
+    """Puts down a version, also for who watches the trunk. The configuration of a program of it."""
+    config = version.its.config(holder.sockets.lacking)
+    with suppress(OSError):                 # (a folder that is full: then they are those before)
+        put_file(f'{holder.folder}/config', config.encode(), 0o640)
+        put_file(f'{holder.folder}/tried', version.its.text().encode(), 0o640)
+    return config
 
 
 def make_folder(holder: Holder) -> None:

@@ -18,6 +18,7 @@ from .loop import CAUGHT
 FIRST, APART = 3, 400       # the first descriptor that systemd gives; where they are put
 GRACE, HEARD, SOON = 5.0, 1.0, 0.01     # seconds for systemd at the end, and before that; between two tries
 HELD = 'E1GW_HELD'          # what the process has that became this one
+Identity = tuple[int, int]
 
 
 class Store:
@@ -28,7 +29,7 @@ class Store:
         self._path = os.environ.get('NOTIFY_SOCKET', '').replace('@', '\0', 1)
         self._line = socket.socket(socket.AF_UNIX, socket.SOCK_DGRAM)
         self._line.setblocking(False)
-        self._kept, self._wanted = dict[str, tuple[int, int]](), dict[str, int]()
+        self._kept, self._wanted = dict[str, Identity](), dict[str, tuple[int, Identity]]()
         self.lags, self._pending = False, list[str]()       # something was not taken; what is to be told
         self.files, self.was = self._given()
 
@@ -45,7 +46,7 @@ class Store:
             for number, name in enumerate(names[:count], FIRST):
                 files[name] = fcntl.fcntl(number, fcntl.F_DUPFD_CLOEXEC, APART)
                 os.close(number)
-        self._kept = {name: identity(file) for name, file in files.items()}
+        self._kept = {name: known for name, file in files.items() if (known := identity(file))}
         return files, {}
 
     @property
@@ -73,7 +74,7 @@ class Store:
 
     def keep(self, files: Mapping[str, int]) -> None:
         """These are to be kept from now on, and no others, the first of them first."""
-        self._wanted = {**files}
+        self._wanted = {name: (file, known) for name, file in files.items() if (known := identity(file))}
         self.send()
 
     def send(self) -> None:
@@ -85,15 +86,17 @@ class Store:
             if not self.tell(self._pending[0]):
                 return False
             self._pending.pop(0)
-        its = {name: identity(file) for name, file in self._wanted.items()} if self._path else {}
-        for name in [name for name, known in self._kept.items() if its.get(name) != known]:
+        its = self._wanted if self._path else {}
+        for name in [name for name, known in self._kept.items() if name not in its or its[name][1] != known]:
             if not self.tell('FDSTOREREMOVE=1', f'FDNAME={name}'):
                 return False
             del self._kept[name]
-        for name in [name for name in its if name not in self._kept]:
-            if not self.tell('FDSTORE=1', f'FDNAME={name}', 'FDPOLL=0', file=self._wanted[name]):
+        for name, (file, known) in its.items():
+            if name in self._kept or identity(file) != known:       # (one that is closed is soon kept no more)
+                continue
+            if not self.tell('FDSTORE=1', f'FDNAME={name}', 'FDPOLL=0', file=file):
                 return False
-            self._kept[name] = its[name]
+            self._kept[name] = known
         return True
 
     def forget(self) -> None:
@@ -130,7 +133,10 @@ class Store:
                 os.set_inheritable(file, False)
 
 
-def identity(file: int) -> tuple[int, int]:
-    """By which a file is known again."""
-    about = os.fstat(file)
+def identity(file: int) -> Identity | None:
+    """By which a file is known again; None if it is closed."""
+    try:
+        about = os.fstat(file)
+    except OSError:
+        return None
     return about.st_dev, about.st_ino

@@ -9,8 +9,8 @@ from functools import cached_property
 from math import inf
 from typing import Any, Collection, Mapping
 
+from ..memory import in_memory
 from .decisions import Trial
-from .files import in_memory
 from .sockets import Address
 
 

@@ -147,7 +147,7 @@ class Spans:
 
 class Answer(enum.StrEnum):
     """The outcome of a command. AGAIN is a codec that the circuit already has: its jitter buffer was resynchronised, by
-    e1gw-trunk or by an operator."""
+    e1gw-watch or by an operator."""
     REFUSED = 'refused'
     DONE = 'done'
     AGAIN = 'again'
@@ -339,7 +339,7 @@ class Facts:
         self.alarms = {(where, what): Spans(where == 'here', (True, False))
                        for where in ('here', 'there') for what in ('frame', 'multiframe')}
         self.alarms['here', 'ones'] = Spans(False, (True, False))
-        self.slips: list[tuple[int, float]] | None = None       # place and seconds, if e1gw-trunk noted them
+        self.slips: list[tuple[int, float]] | None = None       # place and seconds, if e1gw-watch noted them
         self.losses: dict[str, list[int]] = {'frame': [], 'multiframe': []}
         self.begin: float | None = None     # the time of place 0, in seconds since 1970, if known
         self.breaks: list[Break] = []       # where the time goes on otherwise than the octets do

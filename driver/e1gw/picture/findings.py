@@ -282,7 +282,7 @@ def _trunk(facts: Facts, scale: Scale) -> Iterator[Anomaly]:
         yield Anomaly('outage', 0, f'no octets of the trunk came {some(when, ", ", " and {} times more")}')
     slips = [(place, seconds) for place, seconds in facts.slips or () if facts.start <= place]
     if slips:
-        yield Anomaly('slips', 0, f'e1gw-trunk noted {len(slips)} slip{"s" * (len(slips) > 1)}, first at '
+        yield Anomaly('slips', 0, f'e1gw-watch noted {len(slips)} slip{"s" * (len(slips) > 1)}, first at '
                       f'{scale.words(*slips[0])}: {sum(seconds for _, seconds in slips):.3f} s of the trunk were '
                       'lost')
     for (host, port), count in facts.strays.most_common():

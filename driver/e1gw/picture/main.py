@@ -29,7 +29,7 @@ thirty circuits over time with their datagrams and commands, each troubled circu
 counts with their causes, and anomalies in words.
 
 SESSION is the session given to the gateway (e1gw-session(5)): a file, - for standard input, or a folder of sessions
-kept by e1gw-trunk. What the gateway did, `e1gw replay` answers and tells. --capture takes the datagrams from a
+kept by e1gw-watch. What the gateway did, `e1gw replay` answers and tells. --capture takes the datagrams from a
 capture (pcap or pcapng), by the ports of the configuration.'''
 
 

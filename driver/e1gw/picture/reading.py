@@ -15,7 +15,7 @@ from .replay import Replay
 
 TRUNK, DATAGRAM = int(Kind.TRUNK), int(Kind.DATAGRAM)
 HEAD = 4                    # octets of a record before its body
-PIECE = 256                 # octets of the trunk in a record, a millisecond, as in those of e1gw-trunk
+PIECE = 256                 # octets of the trunk in a record, a millisecond, as in those of e1gw-watch
 LEAST = 10 * MULTIFRAME     # octets of the trunk that are given at once: as many as are listened to
 MOST = 25 * MULTIFRAME      # with the records among them they fit into pipes, and the reports of them into its socket
 RECORDS = 200               # at most, that are given at once

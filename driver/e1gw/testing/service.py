@@ -36,14 +36,17 @@ def answer_of(line: socket.socket, command: bytes = b'') -> str:
 
 
 class Service:
-    """A trunk; what its programs print is kept in the folder, where the control is too."""
+    """A trunk; what its programs print is kept in the folder, where the control is too. Options of e1gw-watch are
+    behind --."""
 
     def __init__(self, folder: str, name: str, program: str, config: str, *options: str) -> None:
         self.name, self.control = name, os.path.join(folder, f'{name}.control')
         self.log = open(os.path.join(folder, f'{name}.log'), 'w+', encoding='utf-8')
+        its = [*options, '--'].index('--')
         self.driver = subprocess.Popen(
-            [sys.executable, '-B', LAUNCHER, '--config', config, '--program', program, '--control', self.control,
-             *options], stdin=subprocess.DEVNULL, stdout=self.log, stderr=self.log)
+            [sys.executable, '-B', LAUNCHER, '--config', config, '--program', program, *options[:its], '--',
+             '--control', self.control, *options[its + 1:]], stdin=subprocess.DEVNULL, stdout=self.log,
+            stderr=self.log)
 
     def ask(self, command: str) -> str:
         """The first line of the answer to a command."""

@@ -26,7 +26,7 @@ from .tie import Tie, TieOptions
 
 ABOUT = '''Joins the circuits of two gateways at two sites: a seizure at one end seizes the circuit at the other, and
 answers, clear-backs, clearings, blocks, faults and alarms are passed on.'''
-MORE = '''One runs at each site, alongside e1gw-trunk. Each of its actions is a line of JSON on standard
+MORE = '''One runs at each site, alongside e1gw-watch. Each of its actions is a line of JSON on standard
 output. Without --tls the connection is neither secret nor authenticated. See e1gw-tie(1).'''
 ANYBODY = 'any certificate of the authority is accepted, because no --peer names that of the other site'
 LEAVES = 1.0                # seconds at most to restore codecs
@@ -37,7 +37,7 @@ MOST_MAP = 100_000          # characters at most of the map's file
 def parser() -> argparse.ArgumentParser:
     place = checked(host_and_port)
     made = Parser('e1gw-tie', description=ABOUT, epilog=MORE)
-    made.add_argument('--control', required=True, metavar='SOCKET', help='the control socket of e1gw-trunk here')
+    made.add_argument('--control', required=True, metavar='SOCKET', help='the control socket of e1gw-watch here')
     ways = made.add_mutually_exclusive_group(required=True)
     ways.add_argument('--listen', type=place, metavar='HOST:PORT', help='the address to listen at for the other site')
     ways.add_argument('--connect', type=place, metavar='HOST:PORT', help='the address at which the other site listens')

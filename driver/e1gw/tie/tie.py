@@ -1,4 +1,4 @@
-"""One end of a tie line, between the e1gw-trunk here and the other site's tie."""
+"""One end of a tie line, between the e1gw-watch here and the other site's tie."""
 from __future__ import annotations
 
 import asyncio

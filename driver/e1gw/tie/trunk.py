@@ -1,4 +1,4 @@
-"""The connection with e1gw-trunk here: it is kept up, commands are given, and how circuits stand is asked."""
+"""The connection with e1gw-watch here: it is kept up, commands are given, and how circuits stand is asked."""
 from __future__ import annotations
 
 import asyncio
@@ -23,7 +23,7 @@ Told = dict[str, Any]        # an event of the trunk
 
 
 class TrunkLink:
-    """The connection with one e1gw-trunk at a time. Answers and events come on one stream, so in their order."""
+    """The connection with one e1gw-watch at a time. Answers and events come on one stream, so in their order."""
 
     def __init__(self, path: str, hold: float, tie: Tie) -> None:
         self.is_up = False                              # its status is known

@@ -1,8 +1,8 @@
-"""Takes a call out of what e1gw-trunk has kept of its trunk, into a folder. Needs python3 and e1gw.
+"""Takes a call out of what e1gw-watch has kept of its trunk, into a folder. Needs python3 and e1gw.
 
   e1gw-call ID [KEPT] [--calls FILE] [-o FOLDER] [--config FILE] [--program E1GW]
 
-ID is the last field of the call's line in the file of e1gw-trunk --calls; e1gw-ctl TRUNK calls lists it. KEPT is the
+ID is the last field of the call's line in the file of e1gw-watch --calls; e1gw-ctl TRUNK calls lists it. KEPT is the
 folder of --session with --keep, in which the file calls.csv is, or --calls names it; by default all folders of
 /var/lib/e1gw are looked at. FOLDER, by default ID, gets
 

@@ -4,7 +4,7 @@
   tools/pcap --back [--circuit N] [CAPTURE] > datagrams.rec
 
 SESSION is the gateway's output, by default standard input; its datagrams go from 192.0.2.1 to 192.0.2.2. --in adds the
-datagrams of the gateway's input in the other direction: a file, or a folder of e1gw-trunk --keep. Circuit N has UDP
+datagrams of the gateway's input in the other direction: a file, or a folder of e1gw-watch --keep. Circuit N has UDP
 port 5000 + 2 N at both ends. --circuit N selects this circuit only.
 
 A packet has the time at which it came or went, by its place on the trunk, 256,000 octets a second. The first octet has

@@ -10,7 +10,7 @@
 
 SESSION and OCTETS are files, by default standard input. A line shows for T the places of its octets on the trunk, for D
 the fields of its RTP header (RFC 3550, 5.1), for C the command, for K the codec, for R the request and its answer.
-SESSION may be a file of e1gw-trunk --keep, also a compressed one: then places count from the gateway's start, and
+SESSION may be a file of e1gw-watch --keep, also a compressed one: then places count from the gateway's start, and
 e1gw replay --load NAME.state answers it as the gateway did.
 
 --circuit searches for the frame in the octets (eight frame alignment signals, 64 octets apart), and again after three

@@ -9,10 +9,6 @@ A line is answered by one or more lines and an empty one:
   status, status json        the table, or all of it as one line of JSON
   status N                   the row of circuit N
   events                     `following`; from then on a line of JSON for each change
-  on-loss clear SECONDS      when the last client that asked for it is gone so long, calls are cleared
-  on-loss block SECONDS      the same, and idle incoming circuits are blocked
-  on-loss .. alive SECONDS   who has said nothing for so long counts as gone
-  on-loss keep               takes that back
   role                       of a trunk that two machines have: `active, fed`, `standby, not fed` ..
   promote, demote            this machine is to carry it, or the other one
   move                       the other one is to: the feed says so at its end
@@ -38,6 +34,7 @@ from ..metrics import circuit_table
 from ..session import Codec, Command, circuit_of, circuits_of, codec_record
 from .decisions import who_goes
 from .events import json_line
+from .tasks import Tasks
 
 if TYPE_CHECKING:
     from .watch import TrunkWatch
@@ -84,14 +81,18 @@ class CommandServer:
     """Takes commands of those who connect. Each is asked one line in turn."""
 
     def __init__(self, trunk: TrunkWatch) -> None:
-        self._trunk, self._peers = trunk, set[ControlPeer]()
+        self._trunk, self._peers, self._tasks = trunk, set[ControlPeer](), Tasks()
 
     def followers(self) -> list[ControlPeer]:
         """Who has asked for events."""
         return [peer for peer in self._peers if peer.follows]
 
-    async def came(self, reader: asyncio.StreamReader, writer: asyncio.StreamWriter) -> None:
-        """A client: a line in, an answer and an empty line out."""
+    def came(self, reader: asyncio.StreamReader, writer: asyncio.StreamWriter) -> asyncio.Task[None]:
+        """A client has connected."""
+        return self._tasks.begun(self._serve(reader, writer))
+
+    async def _serve(self, reader: asyncio.StreamReader, writer: asyncio.StreamWriter) -> None:
+        """A line in, an answer and an empty line out."""
         if len(self._peers) >= MOST_CLIENTS:
             out = who_goes(self._peers)
             self._peers.discard(out)
@@ -141,7 +142,7 @@ class CommandServer:
             case [name, *rest] if name in COMMANDS or name == 'codec':
                 return await self._obey_circuit(name, rest)
         return (f'{words[0][:40]}: no such command; there are {", ".join(COMMANDS)}, drain, undrain, codec, status, '
-                'events, on-loss, role, promote, demote, move, reload, quit and help')
+                'events, role, promote, demote, move, reload, quit and help')
 
     async def _obey_drain(self, name: str, word: str, *now: str) -> str:
         """An operator takes circuits, or gives them back."""

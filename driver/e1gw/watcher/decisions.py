@@ -3,26 +3,9 @@ from __future__ import annotations
 
 from dataclasses import dataclass, replace
 from enum import Enum
-from math import inf
 from typing import Iterable, Protocol, TypeVar
 
 QUIET = 1.0                             # seconds after which octets of the trunk are missed
-ROW = 1.0                               # seconds between two failures in a row
-
-
-@dataclass(frozen=True)
-class Failures:
-    """Failures in a row: when the first one was, and the last one."""
-
-    first: float = inf
-    last: float = -inf
-
-    def with_one(self, now: float) -> Failures:
-        return Failures(self.first if now <= self.last + ROW else now, now)
-
-    def last_for(self, seconds: float, asked: float | None) -> bool:
-        """Whether nothing else came for so long, or since an end was `asked` for."""
-        return self.last >= (self.first if asked is None else asked) + seconds
 
 
 # ---- octets that do not come ----

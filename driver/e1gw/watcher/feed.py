@@ -11,15 +11,17 @@ import struct
 import time
 from contextlib import closing, suppress
 from dataclasses import dataclass
-from typing import Any, Callable, Protocol
+from typing import TYPE_CHECKING, Any
 
 from ..faults import words_of_fault
 from ..lines import law_of, read_config, tables_of
-from .drains import KeptDrains
 from ..log_folder import STATE_ROOM, FolderReader, LogBegun, LogFiles, LogPiece
-from .reader import LogReader
+from .tasks import Tasks
 
-FORMAT, VERSION = 'e1gw_feed', 7
+if TYPE_CHECKING:
+    from .held import HeldTrunk
+
+FORMAT, VERSION = 'e1gw_feed', 8
 PIECE = struct.Struct('>di')    # before a piece: when it was all that the log had, or 0, and how many octets follow
 # In place of the latter: nothing follows; it may have the trunk; it is to carry it; another state follows; it is to
 # carry it no more, since it was silent; the circuits that the operator has blocked follow, each a bit.
@@ -53,7 +55,8 @@ def configured(path: str) -> tuple[str, dict[str, Any]]:
 @dataclass(frozen=True)
 class FeedHead:
     """The head of a feed: the law and the circuits, the process number of the program, the place of the first state and
-    the octet of the trunk there, `zero` of the trunk, and the length of the state."""
+    the octet of the trunk there; of a trunk that has packets the number of the one with its octet 0, and how many
+    octets each has, else 0; and the length of the state."""
 
     law: str
     circuits: dict[str, Any]
@@ -61,6 +64,7 @@ class FeedHead:
     place: int
     octets: int
     zero: int
+    size: int
     state: int
 
     def spell(self) -> bytes:
@@ -75,60 +79,20 @@ def head_of(line: bytes) -> FeedHead:
             raise FeedRefused(f'a feed of version {str(plain.pop(FORMAT))[:20]}, and this is {VERSION}')
         del plain[FORMAT]
         head = FeedHead(**plain)
-        numbers = head.program, head.place, head.octets, head.zero, head.state
+        numbers = head.program, head.place, head.octets, head.zero, head.size, head.state
         if isinstance(head.law, str) and isinstance(head.circuits, dict) and all(
                 type(n) is int and n >= 0 for n in numbers) and head.state <= STATE_ROOM:
             return head
-    raise FeedRefused('what comes there is no feed of e1gw-trunk')
-
-
-class ProgramProcess(Protocol):
-    """The process of a program. `over` is set once it has ended."""
-
-    @property
-    def pid(self) -> int: ...
-
-    @property
-    def over(self) -> asyncio.Event: ...
-
-
-class LogPlaces(Protocol):
-    """Where its log is."""
-
-    @property
-    def log(self) -> str: ...
-
-
-class FedVersion(Protocol):
-    """Its version."""
-
-    def config_path(self) -> str: ...
-
-
-class FedProgram(Protocol):
-    """A program whose log is fed."""
-
-    @property
-    def is_up(self) -> bool: ...
-
-    @property
-    def process(self) -> ProgramProcess: ...
-
-    @property
-    def places(self) -> LogPlaces: ...
-
-    @property
-    def version(self) -> FedVersion: ...
+    raise FeedRefused('what comes there is no feed of e1gw-watch')
 
 
 class FeedServer:
-    """Feeds the standby, which connects from one address, while there is a program that carries the trunk; over TLS if
-    there is a context for that."""
+    """Feeds the standby, which connects from one address, while this machine carries the trunk; over TLS if there is a
+    context for that."""
 
-    def __init__(self, peer: str, program: Callable[[], FedProgram | None], reader: Callable[[], LogReader],
-                 zero: Callable[[], int], drains: KeptDrains, context: ssl.SSLContext | None = None) -> None:
-        self._peer, self._program, self._reader, self._zero, self._context = peer, program, reader, zero, context
-        self._drains, self._said_drains = drains, -1        # .. as it was said last
+    def __init__(self, peer: str, trunk: HeldTrunk, context: ssl.SSLContext | None = None) -> None:
+        self._peer, self._trunk, self._context = peer, trunk, context
+        self._said_drains, self._tasks = -1, Tasks()            # which circuits are blocked, as it was said last
         self._writer: asyncio.StreamWriter | None = None        # to the standby that is fed
         self._said = self._fresh = 0.0          # when it has said something, and up to when it has all
         self.hands_over = False                 # at the end of the program
@@ -157,17 +121,20 @@ class FeedServer:
         if self._writer:
             self._writer.transport.abort()
 
-    async def came(self, reader: asyncio.StreamReader, writer: asyncio.StreamWriter) -> None:
-        """Somebody has connected: the standby, in place of itself before, or a stranger."""
+    def came(self, reader: asyncio.StreamReader, writer: asyncio.StreamWriter) -> asyncio.Task[None]:
+        """Somebody has connected."""
+        return self._tasks.begun(self._serve(reader, writer))
+
+    async def _serve(self, reader: asyncio.StreamReader, writer: asyncio.StreamWriter) -> None:
+        """It is the standby, in place of itself before, or a stranger."""
         address = str(writer.get_extra_info('peername')[0])
         if address != self._peer:
-            logger.warning('feed: %s is not --standby, and is fed nothing', address, extra={'kind': 'stranger'})
+            logger.warning('feed: %s is not --fed-from, and is fed nothing', address, extra={'kind': 'stranger'})
             return writer.transport.abort()
         try:
             if self._context:       # (not by the server, where strangers would hold descriptors meanwhile)
                 await writer.start_tls(self._context, ssl_handshake_timeout=PATIENCE)
-            program = self._program()
-            if not program or not program.is_up:
+            if not (program := self._trunk.carried_by()):
                 return writer.write(NOTHING)
             if self._writer:
                 self._writer.transport.abort()
@@ -175,7 +142,7 @@ class FeedServer:
             logger.info('a standby at %s is fed', address)
             await self._feed(program, reader, writer)
         except asyncio.CancelledError:
-            writer.transport.abort()    # (the service ends)
+            writer.transport.abort()    # (the watcher ends)
         except Exception as fault:      # pylint: disable=broad-exception-caught
             logger.warning('feed of %s: %s', address, words_of_fault(fault), extra={'kind': 'feed'})
             writer.transport.abort()
@@ -184,39 +151,39 @@ class FeedServer:
             if self._writer is writer:
                 self._writer, self._fresh = None, 0.0
 
-    async def _feed(self, program: FedProgram, reader: asyncio.StreamReader, writer: asyncio.StreamWriter) -> None:
+    async def _feed(self, program: int, reader: asyncio.StreamReader, writer: asyncio.StreamWriter) -> None:
         """Until the program has ended, and the standby has all and leaves. EOFError if it leaves before."""
-        ends, leaves = (asyncio.ensure_future(each) for each in (program.process.over.wait(), self._hear(reader)))
+        leaves = asyncio.ensure_future(self._hear(reader))
         try:
-            with closing(LogFiles(program.places.log)) as files:
+            with closing(LogFiles(self._trunk.places().log)) as files:
                 log = self._begin(program, files, writer)
                 while not leaves.done() and (now := time.monotonic()) < self._said + PATIENCE:
-                    has_ended, has_room = ends.done(), writer.transport.get_write_buffer_size() < MOST_PIECE
+                    has_ended = self._trunk.state.program != program
+                    has_room = writer.transport.get_write_buffer_size() < MOST_PIECE
                     if has_room and not self._goes_on(log, writer, now) and has_ended:
                         return await self._ends(writer, leaves)
                     if log.is_overtaken():
                         raise EOFError('it is too far behind')
-                    await asyncio.wait([leaves if has_ended else ends], timeout=TICK)
+                    await asyncio.wait([leaves], timeout=TICK)
             raise EOFError('the connection is gone' if leaves.done() else 'it takes nothing')
         finally:
-            ends.cancel()
             leaves.cancel()
 
-    def _begin(self, program: FedProgram, files: LogFiles, writer: asyncio.StreamWriter) -> FolderReader:
+    def _begin(self, program: int, files: LogFiles, writer: asyncio.StreamWriter) -> FolderReader:
         """The head, and the newest state. What is behind that is read by what is returned."""
-        self._reader().read()       # (so it has read no more than what the pair has)
+        trunk, reader = self._trunk, self._trunk.reader
+        reader.read()               # (so it has read no more than what the pair has)
         if not (pair := files.last()):
             raise EOFError('there is no log yet')
-        law, circuits = configured(program.version.config_path())
-        head = FeedHead(law, circuits, program.process.pid, pair.place, self._reader().octets_at(pair), self._zero(),
-                        len(pair.state))
+        law, circuits = configured(trunk.config_path())
+        head = FeedHead(law, circuits, program, pair.place, reader.octets_at(pair), *trunk.numbers(), len(pair.state))
         writer.write(head.spell() + pair.state)
         self._due, self._said_drains = 0.0, -1
         return FolderReader(files, pair.place)
 
     def _say_drains(self, writer: asyncio.StreamWriter) -> None:
         """Which circuits the operator has blocked, if that is not said yet."""
-        bits = sum(1 << n for n in self._drains.now.circuits)
+        bits = sum(1 << n for n in self._trunk.drains().now.circuits)
         if bits != self._said_drains:
             writer.write(PIECE.pack(0.0, DRAINS) + LENGTH.pack(bits))
             self._said_drains = bits

@@ -9,15 +9,17 @@ import os
 import re
 from contextlib import contextmanager, suppress
 from dataclasses import dataclass
-from typing import Any, Iterator
+from typing import TYPE_CHECKING, Any, Iterator
 
 from ..events import Event, LogLost, RoleGiven, Tell, TrunkLost, TrunkOpened
 from ..faults import words_of_fault
-from ..holder_state import INTERFACE, STANDBY, HolderState, TrunkPlaces, state_in
+from ..holder_state import ACTIVE, INTERFACE, STANDBY, HolderState, TrunkPlaces, state_in
 from ..log_folder import logged_by
 from ..memory import in_memory
 from ..lines import SEIZURE_WAIT
+from ..satop_numbers import number_of_now
 from ..session import OCTETS_A_SECOND
+from .card import CardWatch
 from .connection import connected
 from .door import asked
 from .drains import KeptDrains
@@ -26,6 +28,9 @@ from .reader import MOST_FOUND, LogReader
 from .replay import ReplayVersion
 from .said import LineNote, SaidLine
 from .trunk import WatchedTrunk, place_told
+
+if TYPE_CHECKING:
+    from .pair import TrunkPair
 
 MOST_APART = OCTETS_A_SECOND // 2       # octets by which what a program says of its place is late
 LOG_LOST = re.compile(r'cannot (open|write) the log\b')     # as a program says why it ends
@@ -77,13 +82,16 @@ def digest_of(octets: bytes) -> str:
 @dataclass(frozen=True)
 class HeldNote:
     """What the next watcher goes on with: what the holder said; which program it was that told, and the octet of the
-    trunk with which it has begun; its configuration, as a digest; what it has said; how often the log was lost."""
+    trunk with which it has begun; the number of that which had the log at the last state; its configuration, as a
+    digest; what it has said; alarms of the card that were told; how often the log was lost."""
 
     holder: HolderState | None
     session: str
     begun: int
+    logged: int
     config: str
     line: LineNote
+    alarms: int
     log_losses: int
 
 
@@ -99,17 +107,22 @@ class HeldTrunk(WatchedTrunk):
         self._octets = b''                      # of the file that says so
         self._session, self._begun = (note.session, note.begun) if note else ('', 0)
         self._log_losses = note.log_losses if note else 0
-        self._line = self._said(note.line if note else None)
+        self._line, self._card = self._said(note.line if note else None), CardWatch(tell, note.alarms if note else 0)
         self._drains = KeptDrains(f'{state.state}.drains' if state.state else os.path.join(places.folder, 'drains'))
-        self._pid = int(self._session.partition('.')[0] or 0)   # of the program that had the log at the last state
+        self._pid = note.logged if note else 0  # of the program that had the log at the last state
         self._begins = list[int]()              # octets at states with which it may have begun
         self._config = note.config if note else digest_of(self.config_octets())
         self._lost = 0                          # the number of the program before which octets may have been lost
         self._reader: LogReader
+        self.pair: TrunkPair | None = None      # of a trunk that two machines have
 
     def reads(self, reader: LogReader) -> None:
         """This is what reads its log."""
         self._reader, reader.turned = reader, self._turned
+
+    def stands_with(self, pair: TrunkPair) -> None:
+        """Two machines have it."""
+        self.pair = pair
 
     def _said(self, note: LineNote | None) -> SaidLine:
         """What is said of the line that the holder has now."""
@@ -123,6 +136,7 @@ class HeldTrunk(WatchedTrunk):
             self._look_at_holder()
         self._reader.log.follows(self._reader.read)
         self._line.look()
+        self._card.look(self.state.span)
 
     def _look_at_holder(self) -> None:
         with open(self._places.holder, 'rb') as file:
@@ -213,15 +227,26 @@ class HeldTrunk(WatchedTrunk):
     def facts(self) -> dict[str, Any]:
         state, line = self.state, self._line
         return {'since': state.opened, 'fault': fault_of(state), 'version': state.program_version,
-                'senders': state.senders, 'log_losses': self._log_losses, 'pair': {}, 'session': self._reader.why(),
-                'carried': {'transport': {'trunk': state.trunk, **line.status()},
+                'senders': state.senders, 'log_losses': self._log_losses,
+                'pair': self.pair.facts() if self.pair else {}, 'session': self._reader.why(),
+                'carried': {'transport': {'trunk': state.trunk, **line.status(), **self._card.status()},
                             'crc4': line.crc4 and line.crc4.status()}}
 
     def outage(self) -> str | None:
-        return None
+        return self._card.outage()
 
     def place(self) -> int:
-        return self._reader.octets
+        fed = self.pair.fed() if self.pair else None
+        return fed.octets if fed else self._reader.octets
+
+    def carried_by(self) -> int:
+        """The number of the program that carries the trunk here; 0 without one."""
+        return self.state.program if self.state.role == ACTIVE else 0
+
+    def numbers(self) -> tuple[int, int]:
+        """Of a trunk that has packets the number of the one with its octet 0, and how many octets each has; else 0."""
+        number = number_of_now(self._places.satop)
+        return (number.zero(self._reader.octets), number.size) if number else (0, 0)
 
     def session(self) -> str:
         pid = logged_by(self._places.log)
@@ -233,7 +258,8 @@ class HeldTrunk(WatchedTrunk):
         return self._begun
 
     def noted(self) -> HeldNote:
-        return HeldNote(self._told, self._session, self._begun, self._config, self._line.noted(), self._log_losses)
+        return HeldNote(self._told, self._session, self._begun, self._pid, self._config, self._line.noted(),
+                        self._card.told, self._log_losses)
 
     # ---- what is asked ----
 
@@ -244,10 +270,11 @@ class HeldTrunk(WatchedTrunk):
         return await asked(self._places.hold, 'reload force' if force else 'reload')
 
     async def role(self, word: str) -> str:
-        return f'{word}: there is no other machine'
+        return await self.pair.asked(word) if self.pair else f'{word}: there is no other machine (--feed, --fed-from)'
 
     def close(self) -> None:
         self._line.close()
+        self._card.close()
 
 
 async def state_of(places: TrunkPlaces, ending: asyncio.Event) -> HolderState | None:

@@ -20,7 +20,7 @@ from typing import NoReturn
 
 from ..clearing import on_loss_of
 from ..faults import Parser, options_words, words_of_fault
-from ..holder_state import TrunkPlaces
+from ..holder_state import STARTED_BY, TrunkPlaces
 from ..lock import InUse, hold, is_at
 from ..programs import program_of
 from ..writers import hold_descriptors
@@ -30,7 +30,8 @@ from .journal import ServiceJournal
 from .memo import WatchNote, drains_told, note_in
 from .note import NoteFiles
 from .notifier import Notifier
-from .options import add_options, folder_of, recording_of, watched_of
+from .options import add_options, feeding_of, folder_now, recording_of, watched_of
+from .pair import open_pair
 from .reader import LogReader, ReadingNote
 from .tasks import either, every, goes_on
 from .watch import TrunkWatch
@@ -86,8 +87,7 @@ class Watcher:
         """Begins, where the watcher before has left, once there is a holder; whether there is one."""
         if not (state := await state_of(self._places, self._ending)):
             return False
-        with suppress(FileExistsError):
-            os.mkdir(self._places.watch, 0o700)     # (and not the folder, which may be gone in this moment)
+        self._make_folder()
         asked, note, program = self._asked, self._noted(), program_of(self._asked.program, '--built')
         self._trunk = trunk = HeldTrunk(self._places, state, program, asked.config,
                                         lambda event: watch.tell(event), note.held if note else None)
@@ -100,7 +100,14 @@ class Watcher:
         reader.take_up(note.read if note else ReadingNote(), note.recording if note else None)
         watch.status.changed = self.note
         reader.found, reader.told = watch.flowed, lambda: watch.status.lines.place
+        if pair := open_pair(asked, trunk, watch.tell):
+            trunk.stands_with(pair)
         return True
+
+    def _make_folder(self) -> None:
+        """Its folder in that of the trunk, if that is there: the holder makes that."""
+        with suppress(FileExistsError, FileNotFoundError):
+            os.mkdir(self._places.watch, 0o700)
 
     def _noted(self) -> WatchNote | None:
         """What the watcher before this one has noted."""
@@ -119,11 +126,15 @@ class Watcher:
 
     def note(self) -> None:
         """Notes what the next watcher goes on with."""
+        watch, reader = self._watch, self._reader
         with goes_on('the note for the next watcher'):
-            watch, reader = self._watch, self._reader
             drains = {n: each.name for n, each in watch.drains.kept.now.circuits.items()}
-            self._notes.put(WatchNote(self._trunk.noted(), reader.noted(), watch.status.told(), watch.shown(), drains,
-                                      reader.recording_note(), watch.status.calls_note()).text())
+            text = WatchNote(self._trunk.noted(), reader.noted(), watch.status.told(), watch.shown(), drains,
+                             reader.recording_note(), watch.status.calls_note()).text()
+            try:
+                self._notes.put(text)
+            except FileNotFoundError:           # (the trunk has ended, or its folder is made again)
+                self._make_folder()
 
     def look(self) -> None:
         """A few times a second."""
@@ -133,11 +144,17 @@ class Watcher:
             logger.error('process %s watches this trunk', fault)
             self.status = 2
             return self._ending.set()
+        if (folder := folder_now(self._asked)) != self._places.folder and os.path.exists(f'{folder}/holder'):
+            logger.warning('the folder of the trunk is %s from now on', folder)
+            self.status = 1                     # (and the next watcher is there)
+            return self._ending.set()
         if is_over(self._places):
             self._is_over = True
             logger.info('ends: the trunk has ended')
             return self._ending.set()
         self._trunk.look()
+        if self._trunk.pair:
+            self._trunk.pair.look()
 
     async def run(self) -> None:
         """Until the end."""
@@ -145,6 +162,7 @@ class Watcher:
         with every(LOOK, self.look, 'the look at the holder'), every(NOTED, self.note, 'the note'):
             works = [asyncio.create_task(work) for work in (self._reader.run(), self._watch.run())]
             await self._ending.wait()
+        self._is_over = self._is_over or is_over(self._places)
         if not self._is_over:
             self._watch.goes_on()
         for each in works:
@@ -163,22 +181,21 @@ def is_over(places: TrunkPlaces) -> bool:
 
 async def watch_trunk(asked: argparse.Namespace) -> int:
     """Watches to the end; returns the status."""
-    places, ending, parent = TrunkPlaces(folder_of(asked)), asyncio.Event(), os.getppid()
+    places, ending, holder = TrunkPlaces(folder_now(asked)), asyncio.Event(), int(os.environ.get(STARTED_BY, '0'))
     lock, notifier = WatchLock(places.watch_lock), Notifier()
     for number in (signal.SIGTERM, signal.SIGINT):
         asyncio.get_running_loop().add_signal_handler(number, ending.set)
+    asyncio.get_running_loop().add_signal_handler(signal.SIGUSR1, lambda: None)
 
-    def look_at_parent() -> None:
-        """A holder that has started this one may end at once."""
-        if os.getppid() != parent:
+    def look_at_holder() -> None:
+        """That which has started this one may end: the next one starts another."""
+        if holder and os.getppid() != holder:
             ending.set()
-    with every(LOOK, lambda: notifier.tell('WATCHDOG=1'), 'the sign of life'):
-        with every(LOOK, look_at_parent, 'the wait for a holder'):
-            while not (lock.take() or ending.is_set()):
-                await either(LOOK, ending)
-            watcher = Watcher(asked, places, lock, ending)
-            has_begun = await watcher.begin()
-        if has_begun:
+    with every(LOOK, lambda: notifier.tell('WATCHDOG=1'), 'the sign of life'), every(LOOK, look_at_holder, 'the look'):
+        while not (lock.take() or ending.is_set()):
+            await either(LOOK, ending)
+        watcher = Watcher(asked, places, lock, ending)
+        if await watcher.begin():
             notifier.tell('READY=1')
             await watcher.run()
         return watcher.status
@@ -190,7 +207,8 @@ def status_of(words: list[str], loop: asyncio.AbstractEventLoop) -> int:
     try:
         recording_of(asked, 0)
         on_loss_of(asked.on_loss)
-        folder_of(asked)
+        folder_now(asked)
+        feeding_of(asked)
     except ValueError as fault:
         logger.error('%s; see %s --help%s', fault, NAME, options_words())
         return 2

@@ -12,6 +12,7 @@ from dataclasses import dataclass
 
 from ..log_folder import LogPair
 from .connection import SOON, connected
+from .process import kill_process
 from .replay import ReplayVersion
 
 PATIENCE = 10.0             # seconds in which the log is read again
@@ -61,14 +62,14 @@ async def told_again(version: ReplayVersion, pairs: list[LogPair], folder: str) 
         path = os.path.join(within, 'tell')
         try:
             os.write(state, pairs[0].state)
-            process = version.start(['replay', '--load', f'/dev/fd/{state}', '--tell', path], gives, nothing, [state])
+            process = await version.start(['replay', '--load', f'/dev/fd/{state}', '--tell', path], [state], gives,
+                                          nothing)
             try:
                 line = await connects(path)
                 with line:
                     return await asyncio.to_thread(passed, line, given, b''.join(pair.records for pair in pairs))
             finally:
-                await process.kill()
-                process.close()
+                await kill_process(process)
         finally:
             for file in (gives, given, state, nothing):
                 os.close(file)

@@ -28,6 +28,7 @@ def add_options(words: argparse.ArgumentParser) -> None:
                        f'or {MEMORY}]')
     add_reports(words.add_argument_group('control and reports'))
     add_kept(words.add_argument_group('sessions and calls'))
+    add_pair(words.add_argument_group('two machines'))
 
 
 def add_reports(words: argparse._ArgumentGroup) -> None:
@@ -40,7 +41,7 @@ def add_reports(words: argparse._ArgumentGroup) -> None:
                        help='keep, clear SECONDS, or block SECONDS: what is done with the calls when the last '
                        'control client that asked for it is gone [default: keep]')
     words.add_argument('--http', type=checked(host_and_port), metavar='HOST:PORT',
-                       help='serves a page (/; /trunks), /table, /metrics (Prometheus), /status (JSON)')
+                       help='serves a page (/; /trunks), /metrics (Prometheus), /status (JSON)')
     words.add_argument('--json', metavar='FILE', help='a line of JSON for each change; - is standard output')
     words.add_argument('--picture', type=number(10, 3600, float), metavar='SECONDS',
                        help='/picture shows the last seconds, 10 to 3600, of what --keep has; wants both')
@@ -61,8 +62,8 @@ def add_kept(words: argparse._ArgumentGroup) -> None:
 def add_pair(words: argparse._ArgumentGroup) -> None:
     """The options of a trunk that two machines have."""
     words.add_argument('--feed', metavar='ADDRESS:PORT', help='where the other machine is fed the log of the trunk')
-    words.add_argument('--standby', metavar='ADDRESS:PORT', help='--feed of the other machine: this one begins as the '
-                       'standby, fed from there, until e1gw-ctl NAME promote')
+    words.add_argument('--fed-from', metavar='ADDRESS:PORT', help='--feed of the other machine, from where this one is '
+                       'fed while it stands by')
     add_tls(words.add_mutually_exclusive_group(), 'machine')
 
 
@@ -80,6 +81,21 @@ def folder_of(asked: argparse.Namespace) -> str:
     """The folder of this trunk: the same for each start, whatever else its options say."""
     within = asked.folder or os.environ.get('RUNTIME_DIRECTORY', '').partition(':')[0] or MEMORY
     return os.path.join(os.path.realpath(within), f'{name_of(asked)}-{os.getuid()}')
+
+
+def folder_now(asked: argparse.Namespace) -> str:
+    """Where the folder is: a holder moves it into memory if it takes no writes."""
+    usual = folder_of(asked)
+    other = os.path.join(os.path.realpath(MEMORY), os.path.basename(usual))
+    return max((usual, other), key=lambda folder: (modified_at(f'{folder}/holder'), folder == usual))
+
+
+def modified_at(path: str) -> float:
+    """When a file was written; 0 if there is none."""
+    try:
+        return os.stat(path).st_mtime
+    except OSError:
+        return 0.0
 
 
 def recording_of(asked: argparse.Namespace, wait: int) -> RecordingWants | None:
@@ -113,10 +129,10 @@ def watched_of(asked: argparse.Namespace, program: str) -> WatchWants:
 def feeding_of(asked: argparse.Namespace) -> list[tuple[str, int]]:
     """Where this machine feeds the other one, and where it is fed; nothing if there is none. ValueError if it cannot
     be."""
-    texts = [text for text in (asked.feed, asked.standby) if text]
+    texts = [text for text in (asked.feed, asked.fed_from) if text]
     places = [(str(ip_address(host)), port) for host, port in map(host_and_port, texts)]
     if len(places) == 1:
-        raise ValueError('--feed and --standby want each other')
+        raise ValueError('--feed and --fed-from want each other')
     if places and is_exposed(places[0][0], asked):
         raise ValueError(f'{places[0][0]} is not a loopback address, and the feed has the speech of all calls: give '
                          '--tls, or --insecure within a tunnel')

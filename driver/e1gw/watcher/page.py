@@ -125,7 +125,7 @@ def page_of(name: str, parts: Parts, more: Iterable[str]) -> bytes:
     """The page of a trunk, with links to `more` paths that there are."""
     tables = (table_of(kind, caption, heads, [body_of(each, parts[each]) for each in ids if each in parts])
               for kind, caption, heads, ids in TABLES)
-    links = ''.join(f'<a href="{path}">{path[1:]}</a>' for path in (*more, '/table', '/status', '/metrics'))
+    links = ''.join(f'<a href="{path}">{path[1:]}</a>' for path in (*more, '/status', '/metrics'))
     return PAGE.substitute(title=escape(name), refresh=LATER, links=links, tables='\n'.join(tables)).encode()
 
 

@@ -17,7 +17,7 @@ from ..metrics import exposition, table
 from ..priority import put_behind
 from ..udp_tables import sockets_of, with_sockets
 from .page import HOST, POLICY, PageNotes, Parts, message_of, page_of, parts_of, trunks_page
-from .process import Child, python_words, ran
+from .process import python_words, run_process, start_process
 
 EVERY = 0.25                        # seconds between two statuses
 SECONDS, MOST_VISITORS = 10.0, 64   # for one request, and who may ask at once
@@ -29,7 +29,7 @@ WAITED, PATIENCE = 5.0, 0.5         # seconds for which somebody waits for it, a
 WHOLE = b'</html>\n'
 SOON = (b'<!DOCTYPE html><html><head><title>e1gw</title><meta http-equiv="refresh" content="10"><meta name="viewport" '
         b'content="width=device-width"><meta name="color-scheme" content="light dark"></head><body>The page is being '
-        b'made, and loads again by itself. <a href="/table">The table</a></body></html>\n')
+        b'made, and loads again by itself.</body></html>\n')
 HEAD = ('HTTP/1.0 {status}\r\nContent-Type: {kind}; charset=utf-8\r\nContent-Security-Policy: {policy}\r\n'
         'X-Content-Type-Options: nosniff\r\nCache-Control: no-store\r\nConnection: close\r\n')
 NOTHING, DRAWING = "default-src 'none'", "default-src 'none'; style-src 'unsafe-inline'"        # what a page may load
@@ -171,14 +171,14 @@ class WebServer:
         match request.path:
             case '/' if now.parts and request.is_of_browser:
                 return PageAnswer(page_of(f'trunk {now.status["name"]}', now.parts, [*self._slow]), 'text/html', POLICY)
-            case '/' | '/table':
+            case '/':
                 return PageAnswer(now.table.encode())
             case '/metrics':
                 return PageAnswer(now.metrics.encode(), 'text/plain; version=0.0.4')
             case '/status':
                 return PageAnswer(f'{now.json}\n'.encode(), 'application/json')
         others = ''.join(f', {path}' for path in (*self._slow, *['/events'] * bool(self._readers)))
-        return PageAnswer(f'there are /, /table, /metrics, /status{others}\n'.encode(), status='404 Not Found')
+        return PageAnswer(f'there are /, /metrics, /status{others}\n'.encode(), status='404 Not Found')
 
 
 class EventReaders:
@@ -254,12 +254,10 @@ class SlowPage:
 
 async def picture_of(words: list[str]) -> bytes | None:
     """What a process behind the calls draws by the command with these words; None if it takes too long."""
-    def start(reads: int, writes: int) -> Child:
-        command = python_words('picture.main', *words)
-        process = Child.start(command[0], command, reads, writes)
-        put_behind(process.pid, NICE)
-        return process
-    status, _, drawn = await ran(start, b'', DRAWN)
+    command = python_words('picture.main', *words)
+    process = await start_process(command[0], command)
+    put_behind(process.pid, NICE)
+    status, _, drawn = await run_process(process, b'', DRAWN)
     return None if status is None else drawn
 
 

@@ -71,7 +71,7 @@ class LogReader:
     # ---- the log ----
 
     def take_up(self, read: ReadingNote, left: RecordingNote | None, files: LogFiles | None = None) -> None:
-        """Begins, where the service before this one was, with the log that it has left, and with its recording if that
+        """Begins, where the watcher before this one was, with the log that it has left, and with its recording if that
         was of the same and the log has what it lacks."""
         self.log.place, self.octets, self._written = read.place, read.octets, read.written
         self.first, self.starts = read.first, read.starts
@@ -158,7 +158,7 @@ class LogReader:
             self.octets += self._missed if missed is None else missed
         self.has_missed, self._missed = False, 0
 
-    # ---- for the service that comes after this one ----
+    # ---- for the watcher that comes after this one ----
 
     @property
     def files(self) -> dict[str, int]:

@@ -194,7 +194,7 @@ class TrunkRecording:
         self._open()
 
     def _open(self) -> None:
-        """Opens the file of now. One of the service before this one may have more than was noted."""
+        """Opens the file of now. One of the watcher before this one may have more than was noted."""
         path = self._path + RECORDS * bool(self.ring)
         if self._file >= 0:
             return

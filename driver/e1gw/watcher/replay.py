@@ -3,6 +3,7 @@ standby are made."""
 from __future__ import annotations
 
 import os
+from asyncio.subprocess import PIPE, Process
 from contextlib import suppress
 from dataclasses import dataclass
 from typing import Iterable, Sequence
@@ -10,7 +11,7 @@ from typing import Iterable, Sequence
 from ..lines import SEIZURE_WAIT, wait_words
 from ..log_folder import LogPair
 from ..memory import in_memory, octets_in
-from .process import Child, ran
+from .process import run_process, start_process
 
 CHECK = 10.0                # seconds for a program to check a configuration, or to replay a log
 
@@ -35,7 +36,8 @@ class ReplayVersion:
     def config_octets(self) -> bytes:
         return octets_in(self.config)
 
-    def start(self, words: Sequence[str], reads: int, writes: int, passed: Iterable[int] = (), said: int = -1) -> Child:
+    async def start(self, words: Sequence[str], passed: Iterable[int] = (), reads: int = PIPE,
+                    writes: int = PIPE) -> Process:
         """Starts a process of it: a subcommand, which reads its configuration, with further words."""
         executable = f'/proc/self/fd/{self.file}'
         with suppress(OSError):         # (by its path, as long as it is the same file)
@@ -43,10 +45,10 @@ class ReplayVersion:
                 executable = self.program
         words = [self.program, words[0], '--config', self.config_path(), *wait_words(self.wait), *words[1:]]
         if os.access(executable, os.X_OK) or not self.was_tried:
-            return Child.start(executable, words, reads, writes, [self.file, self.config, *passed], said)
+            return await start_process(executable, words, [self.file, self.config, *passed], reads, writes)
         copy = in_memory(octets_in(self.file))
         try:
-            return Child.start(f'/proc/self/fd/{copy}', words, reads, writes, [copy, self.config, *passed], said)
+            return await start_process(f'/proc/self/fd/{copy}', words, [copy, self.config, *passed], reads, writes)
         finally:
             os.close(copy)
 
@@ -55,8 +57,7 @@ class ReplayVersion:
         state = in_memory(begun.state if begun else b'')
         words = [*words, '--load', f'/dev/fd/{state}'] if begun else words
         try:
-            return await ran(lambda reads, writes: self.start(words, reads, writes, [state]),
-                             begun.records if begun else b'', CHECK)
+            return await run_process(await self.start(words, [state]), begun.records if begun else b'', CHECK)
         finally:
             os.close(state)
 

@@ -1,6 +1,8 @@
 """The standby of a trunk: it writes what the other machine feeds into a log of its own, from which the next program
 begins here. It opens no port, and sends nothing but up to when it has all. It keeps what it knows until another feed
-has caught up."""
+has caught up: that is in FOLDER/fed, from where the holder takes it.
+
+Each watcher is fed anew: only who was there knows how the clocks differ."""
 from __future__ import annotations
 
 import asyncio
@@ -12,7 +14,7 @@ import shutil
 import tempfile
 import time
 from contextlib import closing, suppress
-from typing import Callable, Sequence
+from typing import TYPE_CHECKING, Callable, Sequence
 
 from ..events import Fed, NotFed, Tell
 from ..faults import words_of_fault
@@ -23,15 +25,18 @@ from .feed import (BACK, CARRIES, DRAINS, END, FRESH, GO, LENGTH, MARK, MOST_HEA
 from ..log_folder import RECORDS_ROOM, STATE_ROOM, LogFiles, LogPair, LogWriter, NoRoom
 from .replay import ReplayVersion
 
+if TYPE_CHECKING:
+    from .held import HeldTrunk
+
 AGAIN, MOST_AGAIN = 0.1, 1.0            # seconds between two tries to be fed
 SAYS = 0.05                 # seconds between two words of what it has
-IN_TIME = 0.1               # seconds that a far end may wait for packets
 DRIFT = 1e-4                # by which the clocks of two machines differ at most, in seconds a second
 MOST_AGE = 60.0             # seconds after which a state is of no use
 ONES = trunk_record(b'\xff' * MULTIFRAME)
 MANY = RECORDS_ROOM // 4 // len(ONES)   # of them that are put at once
-FED = 'fed-'                # how folders of what is fed begin
-NO_TRUNK = 'it carries no trunk, or this address is not its --standby'
+FED = 'fed-'                # how folders begin of what is fed and has not caught up
+NO_TRUNK = 'it carries no trunk, or this address is not its --fed-from'
+NOTHING_KNOWN = 'nothing is known'
 NO_CERTIFICATE = 'it refuses the certificate of this machine'
 
 logger = logging.getLogger(__name__)
@@ -41,10 +46,12 @@ class FedLog:
     """The log of the other machine, as far as it is here: a state, and whole records behind it, in a folder of its
     own."""
 
-    def __init__(self, within: str, place: int, octets: int, zero: int, pid: int = 0) -> None:
-        """`octets` is the octet of the trunk at this place, `zero` that of the trunk there."""
+    def __init__(self, within: str, place: int, octets: int, numbers: tuple[int, int] = (0, 0), pid: int = 0) -> None:
+        """`octets` is the octet of the trunk at this place; `numbers` see FeedHead: of octet 0, and of octets."""
         self.folder = tempfile.mkdtemp(prefix=FED, dir=within)
-        self.place, self.octets, self.zero, self.pid, self._cut, self._has_trunk = place, octets, zero, pid, b'', False
+        self.place, self.octets, self.numbers, self.pid, self._cut, self._has_trunk = \
+            place, octets, numbers, pid, b'', False
+        self._is = os.stat(self.folder)
         self._writer = LogWriter(self.folder)
         self.came = self._took = time.monotonic()       # when the machine that it is of had octets of the trunk last
         self.fresh = self.came - FRESH          # of when it had all that the other log had
@@ -121,16 +128,26 @@ class FedLog:
         with closing(LogFiles(self.folder)) as files:
             return files.last()
 
+    def number(self) -> int | None:
+        """That of the next packet, of a trunk that has packets."""
+        zero, size = self.numbers
+        return zero + self.octets // size & 0xffff if size else None
+
     def goes_to(self, folder: str) -> None:
-        """It is the log of this folder from now on."""
-        shutil.rmtree(folder, ignore_errors=True)
+        """It is in this folder from now on, in place of what that has."""
+        aside = tempfile.mkdtemp(prefix=FED, dir=os.path.dirname(folder))
+        with suppress(FileNotFoundError):
+            os.rename(folder, aside)
         os.rename(self.folder, folder)
         self.folder = folder
+        shutil.rmtree(aside, ignore_errors=True)
 
-    def close(self, is_kept: bool = False) -> None:
+    def close(self) -> None:
+        """It is known no more. (The holder may have taken it, and another one may be in its place.)"""
         self._writer.close()
-        if not is_kept:
-            shutil.rmtree(self.folder, ignore_errors=True)
+        with suppress(OSError):
+            if os.path.samestat(os.stat(self.folder), self._is):
+                shutil.rmtree(self.folder, ignore_errors=True)
 
 
 async def last_word(reader: asyncio.StreamReader) -> int:
@@ -142,18 +159,16 @@ async def last_word(reader: asyncio.StreamReader) -> int:
 
 class TrunkStandby:
     """Is fed by the other machine, at this place of it, over TLS if there are files for that. `source` is the address
-    from which it connects; `version` gives the program and the configuration of now; `folder` is for its logs; `tell`
-    reports who feeds it."""
+    from which it connects; `tell` reports who feeds it."""
 
-    def __init__(self, place: tuple[str, int], source: str, tls: Sequence[str], version: Callable[[], ReplayVersion],
-                 folder: str, tell: Tell) -> None:
-        self._place, self._source, self._tls, self._version, self._folder = place, source, tls, version, folder
-        self._tell, self._by = tell, f'{place[0]}:{place[1]}'
+    def __init__(self, place: tuple[str, int], source: str, tls: Sequence[str], trunk: HeldTrunk, tell: Tell) -> None:
+        self._place, self._source, self._tls, self._trunk = place, source, tls, trunk
+        self._folder, self._tell, self._by = trunk.places().folder, tell, f'{place[0]}:{place[1]}'
         self.is_handed: Callable[[bool], None] = lambda takes: None     # this machine is to carry the trunk, or no more
         self.carries: Callable[[], bool] = lambda: False        # whether it does
         self.drains: Callable[[list[int]], None] = lambda circuits: None    # the operator has blocked these there
         self._taking: asyncio.Task[None] | None = None          # what says so to the other machine
-        for left in glob.glob(os.path.join(glob.escape(folder), f'{FED}*')):      # (of a service before this one)
+        for left in glob.glob(os.path.join(glob.escape(self._folder), f'{FED}*')):     # (of a watcher before it)
             shutil.rmtree(left, ignore_errors=True)
         self.fed: FedLog | None = None
         self.why = ''           # why nothing feeds it
@@ -208,14 +223,14 @@ class TrunkStandby:
         head = head_of(line)
         circuits = self._differs(head)
         state = await reader.readexactly(head.state)
-        fed = FedLog(self._folder, head.place, head.octets, head.zero, head.program)
+        fed = FedLog(self._folder, head.place, head.octets, (head.zero, head.size), head.program)
         fed.begin(state)
         fed.circuits = circuits
         return fed
 
     def _differs(self, head: FeedHead) -> list[int]:
         """The circuits that are configured otherwise there. FeedRefused if the law is another one."""
-        law, circuits = configured(self._version().config_path())
+        law, circuits = configured(self._trunk.config_path())
         if law != head.law:
             raise FeedRefused(f'its law is {head.law[:20]}, and here it is {law}')
         return [n for n in CIRCUITS if circuits.get(str(n)) != head.circuits.get(str(n))]
@@ -285,27 +300,24 @@ class TrunkStandby:
         self._tell(Fed(self._by, fed.pid))
 
     def knows(self, fed: FedLog | None) -> None:
-        """This is what it knows from now on."""
+        """This is what it knows from now on, and the holder finds."""
+        if fed:
+            fed.goes_to(self._trunk.places().fed)
         before, self.fed = self.fed, fed
         if before:
             before.close()
 
-    async def goes_to(self, folder: str, is_given: bool) -> tuple[FedLog | None, str]:
-        """Has a folder have the log of now, up to which ones are put, and how many; None if nothing is known. If the
-        next program `is_given` the last of the ones, it sends what belongs to them, and the far end may have it in
-        time."""
-        fed, self.fed = self.fed, None
+    async def fill(self) -> str:
+        """What it knows gets ones for the time since octets came. It forgets what is too old. Says what there is."""
+        fed = self.fed
         if not fed:
-            return None, 'nothing is known'
+            return 'what was fed to a watcher before' if os.path.exists(self._trunk.places().fed) else NOTHING_KNOWN
         if (age := time.monotonic() - max(fed.came, fed.fresh)) > MOST_AGE:
-            fed.close()
-            return None, f'what is known is {age:.0f} s old'
+            self.knows(None)
+            return f'what is known is {age:.0f} s old'
         try:
-            is_soon = is_given and time.monotonic() < fed.came + IN_TIME
-            count = 0 if is_soon else await fed.fill(self._version())
-            fed.goes_to(folder)
-            fed.close(True)
-        except OSError as fault:
-            fed.close()
-            return None, words_of_fault(fault)
-        return fed, f', {count} of them ones'
+            with self._trunk.version() as version:
+                count = await fed.fill(version)
+        except OSError as fault:            # (the calls go on without them)
+            return f'behind octet {fed.octets}, without ones: {words_of_fault(fault)}'
+        return f'behind octet {fed.octets}, {count} of them ones'

@@ -78,7 +78,7 @@ class TrunkStatus:
         self.lines.lost()
 
     def take_up(self, note: CallsNote) -> None:
-        """Goes on with the calls of the service before this one."""
+        """Goes on with the calls of the watcher before this one."""
         self.calls.life = self.naming.known(self.lines.lines)
         self.calls.take_up(note)
         self.lines.place, self._at, self._is_known = note.place, note.at, True

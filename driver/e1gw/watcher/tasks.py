@@ -5,12 +5,9 @@ from __future__ import annotations
 import asyncio
 import logging
 import os
-import time
 import traceback
 from contextlib import contextmanager
 from typing import Any, Awaitable, Callable, Coroutine, Iterator, ParamSpec
-
-from .decisions import Failures
 
 AGAIN = 0.1                 # seconds before what has failed is begun again
 P = ParamSpec('P')
@@ -54,24 +51,23 @@ class Tasks(set[asyncio.Task[Any]]):
     """Tasks that are held until they are done."""
 
     def begin(self, work: Coroutine[Any, Any, Any]) -> None:
+        self.begun(work)
+
+    def begun(self, work: Coroutine[Any, Any, Any]) -> asyncio.Task[Any]:
+        """The same, and returns the task."""
         self.add(task := asyncio.create_task(work))
         task.add_done_callback(self.discard)
+        return task
 
 
-async def again(work: Callable[[], Awaitable[None]], what: str,
-                is_given_up: Callable[[Failures], bool] = lambda failures: False) -> bool:
-    """Does a work, and begins it again each time that it fails, reported with the place, to --debug with all of it,
-    until it is given up. Returns whether it was done."""
-    failures = Failures()
-    while not is_given_up(failures):
+async def again(work: Callable[[], Awaitable[None]], what: str) -> None:
+    """Does a work, and begins it again each time that it fails, reported with the place."""
+    while True:
         try:
-            await work()
-            return True
+            return await work()
         except Exception as fault:      # pylint: disable=broad-exception-caught
             has_failed(what, fault)
-            failures = failures.with_one(time.monotonic())
             await asyncio.sleep(AGAIN)
-    return False
 
 
 @contextmanager
@@ -96,4 +92,3 @@ def has_failed(what: str, fault: Exception) -> None:
     at = traceback.extract_tb(fault.__traceback__)[-1]
     logger.error('%s goes on: %s: %s (%s:%s in %s)', what, type(fault).__name__, fault,
                  os.path.basename(at.filename), at.lineno, at.name, extra={'kind': 'fault'})
-    logger.debug('%s', what, exc_info=True)

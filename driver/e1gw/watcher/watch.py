@@ -44,7 +44,7 @@ logger = logging.getLogger(__name__)
 
 @dataclass(kw_only=True)
 class WatchWants:
-    """What an operator wants to have of a trunk: options of e1gw-trunk(1). `picture` are the words of the command that
+    """What an operator wants to have of a trunk: options of e1gw-watch(1). `picture` are the words of the command that
     draws the last seconds, `kept` those by which e1gw-call finds a call behind its id, if calls are kept."""
 
     name: str
@@ -147,7 +147,7 @@ class TrunkWatch:
             await self._program.ask(record, lambda: None, waits=False)
 
     def take_up(self, note: CallsNote) -> None:
-        """Goes on with the calls of the service before this one, some of whose lines it may not have written."""
+        """Goes on with the calls of the watcher before this one, some of whose lines it may not have written."""
         self.status.take_up(note)
         for line in note.lines:
             if self._calls and self.wants.calls and not has_line(self.wants.calls, line):

@@ -1,5 +1,4 @@
-"""The line of an emulated circuit, whose `e1gw satop` is a script: what becomes of it, and of its numbers. (It becomes
-test_holder_satop.py when the holder carries trunks.)"""
+"""The line of an emulated circuit, whose `e1gw satop` is a script: what becomes of it, and of its numbers."""
 from __future__ import annotations
 
 import os

@@ -1,4 +1,4 @@
-"""One process a trunk: what is read of its log, and kept of it, whatever ends meanwhile."""
+"""What is read of the log of a trunk, and kept of it, whatever ends meanwhile."""
 from __future__ import annotations
 
 import asyncio
@@ -16,11 +16,11 @@ from unittest import mock
 
 from . import support
 from .logs import WrittenLog
+from .plain_trunk import PlainTrunk
 from .support import SECONDS
 from .test_reports import BEGIN, row
 from e1gw.clock import TICK, ClockFinding
 from e1gw.counts import DatagramCounts
-from e1gw.service.operated import OperatedTrunk
 from e1gw.watcher import reader, recordings, status
 from e1gw.log_folder import RECORDS, LogState
 from e1gw.watcher.reader import LogReader, ReadingNote
@@ -220,10 +220,7 @@ class LogReaderTests(support.LoopCase):
     async def test_its_program_does_not_say_where_it_is(self) -> None:
         """It hangs, or has no octets: what it tells otherwise is read, and it is asked again."""
         config, tell = self.write('trunk.toml', 'law = "A"\n[[circuit]]\nnumber = 1\n'), self.path('tell')
-        carrier = mock.Mock(reader=self.reader, pair=None, **{
-            'places.tell': tell, 'version.return_value.config_path.return_value': config, 'program.begun': 0,
-            'trunk.facts.return_value': {}})
-        trunk = OperatedTrunk(carrier, mock.Mock())
+        trunk = PlainTrunk(self.reader, self.folder, config)
         setattr(trunk, 'missed', mock.AsyncMock(return_value=None))
         with support.listening(tell) as listener, mock.patch.object(status, 'PATIENCE', 0.01, create=True), \
                 mock.patch.object(status, 'REST', 0.001):
@@ -269,8 +266,7 @@ class LogReaderTests(support.LoopCase):
             writer.write(next(tells))
             writer.close()
         await asyncio.start_unix_server(came, self.path('tell'))
-        its = OperatedTrunk(mock.Mock(reader=self.reader, program=mock.Mock(begun=500), **{
-            'places.tell': self.path('tell')}), mock.Mock())
+        its = PlainTrunk(self.reader, self.folder, '', 500)
         await its.know_place()
         await its.know_place()              # (nothing is missed any more)
         self.assertEqual((self.reader.octets, self.reader.has_missed), (500 + 2560, False))

@@ -1,6 +1,5 @@
 """Scenes of a holder with thirty calls and the real program: what dies, and what is asked of it. What is heard is what
-one uncut replay gives. (They become test_holder_scenes.py when the holder carries trunks. Until then, in driver/:
-E1GW=../out/e1gw python3 -m unittest tests.holder_scenes.)"""
+one uncut replay gives."""
 from __future__ import annotations
 
 import contextlib
@@ -15,7 +14,7 @@ from unittest import mock
 from . import support
 from .holders import HolderCase
 from .support import SECONDS
-from .world import words_of
+from .world import children, words_of
 from e1gw.holder_state import TrunkPlaces
 
 
@@ -24,8 +23,7 @@ class HolderDeathTests(HolderCase):
         """Another one goes on with all that was answered."""
         self.begins()
         for number in signal.SIGKILL, signal.SIGTERM, signal.SIGSTOP:
-            os.kill(self.program, number)
-            self.goes_on_all()
+            self.dies(number)
         self.as_uncut()
         self.ends()
 
@@ -110,6 +108,42 @@ class HolderDeathTests(HolderCase):
         self.as_uncut()
         self.ends()
 
+    def test_its_watcher_dies(self) -> None:
+        """By hand a holder starts one, and another one if it dies, also behind a replacement. With its holder it ends,
+        and the next one has its own; one that was to end stays away."""
+        self.options.remove('--alone')
+        self.starts_holder(is_by_hand=True)
+        self.device.accept()
+        self.goes_on()
+        before = 0
+        for is_replaced in False, True:
+            before = self.another_watcher(before)
+            if is_replaced:
+                self.assertEqual(self.asks('replace'), 'replace: done')
+            os.kill(before, signal.SIGKILL)
+            self.awaits('e1gw-watch ended by signal 9')
+        before = self.another_watcher(before)
+        self.kill_holder()
+        support.until(lambda: support.state_of(before) in ('', 'Z'))
+        self.starts_holder(is_by_hand=True)
+        self.device.accept()
+        self.goes_on()
+        last = self.another_watcher(before)
+        os.kill(last, signal.SIGTERM)
+        support.until(lambda: support.state_of(last) == '')
+        self.step(20)
+        self.assertEqual(self.watcher(), 0)
+        self.ends()
+
+    def watcher(self) -> int:
+        return next((pid for pid in children(self.keeper.pid) if 'e1gw-watch' in ' '.join(words_of(pid)[:3])), 0)
+
+    def another_watcher(self, before: int) -> int:
+        """Waits for one that watches."""
+        path = self.places.watch_lock
+        return support.until(lambda: (pid := self.watcher()) not in (0, before) and os.path.exists(path)
+                             and str(pid) in support.text_of(path) and pid)
+
     def test_second_start(self) -> None:
         """It ends, and the first one notices nothing."""
         self.begins()
@@ -150,7 +184,7 @@ class HolderDeathTests(HolderCase):
         """The next program goes on with the log in memory."""
         name = f'scene{os.getpid()}'
         self.places, other = (TrunkPlaces(os.path.join(within, f'{name}-{os.getuid()}')) for within in (
-            self.memory, os.path.dirname(support.launcher('hold'))))     # (tests/start)
+            self.memory, os.path.dirname(support.launcher('trunk'))))     # (tests/start)
         self.control = self.places.control
         refuses = f'case "$*" in *" {self.places.log} "*) echo cannot open the log of the trunk >&2; exit 1;; esac'
         program = self.scripted(f'if test -e {self.path("full")}; then {refuses}; fi')
@@ -257,6 +291,21 @@ class HolderAskedTests(HolderCase):
         self.assertFalse(self.state().trial)
         self.ends()
 
+    def test_a_version_that_dies_twice(self) -> None:
+        """The one before comes back, also behind the next death and another reload."""
+        self.begins()
+        for _ in range(2):
+            self.assertEqual(self.asks('reload'), 'reload: done')
+            self.goes_on_all()
+            self.dies()
+            os.kill(self.program, signal.SIGKILL)
+            self.awaits('reload: refused, the version before comes back: ')
+            self.goes_on_all()
+            self.dies()
+            self.settles()
+        self.as_uncut()
+        self.ends()
+
     def test_replace(self) -> None:
         """Another holder has the same program and descriptors; a second one has them, too."""
         self.begins()
@@ -267,16 +316,12 @@ class HolderAskedTests(HolderCase):
             self.step(20)
         os.kill(self.keeper.pid, signal.SIGUSR2)
         self.awaits('the holder was replaced: program')
-        self.dies_all()
+        self.dies()
         self.kill_holder()
         self.starts_holder()
         self.goes_on_all()
         self.as_uncut()
         self.ends()
-
-    def dies_all(self) -> None:
-        os.kill(self.program, signal.SIGKILL)
-        self.goes_on_all()
 
     def test_release_and_take(self) -> None:
         self.begins()

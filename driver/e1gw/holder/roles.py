@@ -1,0 +1,82 @@
+"""Of a trunk that two machines have: this holder takes it, with the log that was fed here, or releases it."""
+from __future__ import annotations
+
+import re
+from typing import TYPE_CHECKING
+
+from ..fault_words import words_of_fault
+from ..holder_state import ACTIVE, STANDBY
+from ..writers import put_file
+from .decisions import EndReason
+from .ending import ANEW
+from .journal import Severity, say
+from .log import is_there, remove, rename_over, silence_of
+from .requests import HolderRequest
+
+if TYPE_CHECKING:
+    from .holder import Holder
+
+MOST_AGE = 60.0             # seconds after which what was fed is of no use
+CHANGES = re.compile(r'take( \d{1,5})?|release')     # the number is that of the next packet, of a line that has packets
+REVERSE = 'the reverse was asked for meanwhile'
+
+
+def change_role(holder: Holder, request: HolderRequest, now: float) -> None:
+    """The holder is to have the trunk from now on, or not. What is asked for twice is done once."""
+    is_active, program = request.word == 'take', holder.program
+    is_other = is_active is not holder.is_active
+    if is_other:
+        if is_active and not program:       # (else what it has is there, and it is taken back)
+            take_log(holder, now)
+            holder.line.number = int(request.text[5:]) & 0xffff if request.text[5:] else None
+        holder.is_active, holder.due = is_active, now
+        put_role(holder)
+        holder.settle('release' if is_active else 'take', REVERSE)
+    if is_active and program and program.is_up and not program.asked:
+        return request.done()
+    holder.requests.append(request)
+    if not (is_active or program):
+        holder.release()
+    elif not is_active:
+        holder.want(EndReason.RELEASE, now)
+    holder.tell()
+
+
+def put_role(holder: Holder) -> None:
+    """The next holder has it, too."""
+    try:
+        put_file(f'{holder.folder}/role', (ACTIVE if holder.is_active else STANDBY).encode(), 0o640)
+    except OSError as fault:
+        say(Severity.ERROR, f'{words_of_fault(fault)}: a holder that is begun again may have another role')
+
+
+def take_log(holder: Holder, now: float) -> None:
+    """What was fed here is the log. It is copied: who feeds it may hang, and write to it later. The trunk begins anew
+    if there is none, or it is old."""
+    log, fed = f'{holder.folder}/log', f'{holder.folder}/fed'
+    holder.why, holder.was_up, holder.lost, holder.silent = 'promoted', True, '', now
+    holder.log.close()
+    if is_there(fed) and (age := silence_of(fed)) <= MOST_AGE:
+        holder.silent -= age
+        holder.log.hold(fed)
+    remove(log)
+    try:
+        has_log = holder.log.put_back(log)
+    except OSError as fault:
+        say(Severity.WARNING, f'{words_of_fault(fault)}: what was fed is not copied')
+        rename_over(fed, log)
+        has_log = True
+    if has_log:
+        holder.log.hold(log)
+    else:
+        holder.lost = ANEW
+    remove(fed)
+
+
+def give_log(holder: Holder) -> None:
+    """What this machine knows of a trunk that it has no more is as if the other one had fed it."""
+    holder.log.close()
+    try:
+        rename_over(f'{holder.folder}/log', f'{holder.folder}/fed')
+    except OSError as fault:
+        say(Severity.ERROR, f'{words_of_fault(fault)}: what is known of the trunk is lost')

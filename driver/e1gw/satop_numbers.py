@@ -1,0 +1,66 @@
+"""Numbers of the packets of an emulated circuit, by what is in the folder of its trunk: the number with which `e1gw
+satop` has begun, and what it has said since. The holder goes on with them, and the other machine of a pair."""
+from __future__ import annotations
+
+import json
+import os
+import time
+from dataclasses import dataclass
+from typing import Any, Mapping
+
+OCTETS_A_SECOND = 256_000
+ENDS = '.ends'              # behind the path of what the process says: a file with how it began
+
+
+def next_number(first: int, lines: list[str], seconds: float, size: int) -> int:
+    """The number of the next packet behind those of a process that began with the first one: by how many it said last
+    that it had sent, and the seconds since. (A few more or less are within the window of the far end.)"""
+    sent = 0
+    for line in lines:
+        words = dict(word.partition('=')[::2] for word in line.split()[1:]) if line.startswith('satop ') else {}
+        sent = int(words['sent']) if words.get('sent', '').isdecimal() else sent
+    return first + sent + round(max(0.0, seconds) * OCTETS_A_SECOND / size) & 0xffff
+
+
+def lines_in(path: str) -> list[str]:
+    """What the process has said."""
+    try:
+        with open(path, encoding='utf-8', errors='replace') as file:
+            return file.read().splitlines()
+    except OSError:
+        return []
+
+
+def begun_in(path: str) -> Mapping[str, Any]:
+    """How it began; nothing if that is not known."""
+    try:
+        with open(f'{path}{ENDS}', 'rb') as file:
+            return dict(json.load(file))
+    except (OSError, ValueError, TypeError):
+        return {}
+
+
+@dataclass(frozen=True)
+class PacketNumber:
+    """That of the next packet, and the octets of each."""
+
+    number: int
+    size: int
+
+    def zero(self, octets: int) -> int:
+        """That of the packet with the trunk's octet 0, if this number of octets came before the next one."""
+        return self.number - octets // self.size & 0xffff
+
+
+def number_of_now(path: str) -> PacketNumber | None:
+    """That of now; None if no process has begun there."""
+    begun = begun_in(path)
+    words, first = begun.get('words'), begun.get('first')
+    if not isinstance(first, int) or not isinstance(words, list) or '--size' not in words[:-1]:
+        return None
+    size = int(words[words.index('--size') + 1])
+    try:
+        since = time.time() - os.stat(path).st_mtime
+    except OSError:
+        return PacketNumber(first, size)
+    return PacketNumber(next_number(first, lines_in(path), since, size), size)

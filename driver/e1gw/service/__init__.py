@@ -1,1 +1,0 @@
-"""One process a trunk: keeps the program on it."""

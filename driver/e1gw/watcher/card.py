@@ -1,0 +1,77 @@
+"""The card of a trunk, as its driver tells it: alarms and what it counts, asked each second. The holder has the
+channel, and takes its events."""
+from __future__ import annotations
+
+import logging
+import os
+import time
+from math import inf
+from typing import Any
+
+from ..dahdi import CONTROL, Alarm, SpanFacts, span_of
+from ..events import CardAlarm, CardAlarmChanged, Tell
+from ..faults import words_of_fault
+
+LOOK = 1.0                  # seconds between two looks
+DOWN = Alarm.RED | Alarm.BLUE | Alarm.NOT_OPEN
+
+logger = logging.getLogger(__name__)
+
+
+class CardWatch:
+    """Watches the span of a card. `tell` is called with each change of an alarm; `told` are those of which another
+    watcher has told the begin."""
+
+    def __init__(self, tell: Tell, told: int) -> None:
+        self._tell, self._told = tell, Alarm(told)
+        self._span: SpanFacts | None = None
+        self._file, self._said, self._due = -1, '', -inf
+
+    @property
+    def told(self) -> int:
+        return int(self._told)
+
+    def look(self, span: int) -> None:
+        """Asks for this span, and tells which alarms have changed; 0 is none. Why it cannot is said once."""
+        if not span:
+            return self.close()
+        if (now := time.monotonic()) < self._due:
+            return
+        self._due = now + LOOK
+        try:
+            self._file = os.open(CONTROL, os.O_RDWR | os.O_CLOEXEC) if self._file < 0 else self._file
+            self._span, why = span_of(self._file, span), ''
+        except OSError as fault:
+            self.close()
+            why = words_of_fault(fault, CONTROL)
+        if why and why != self._said:
+            logger.warning('alarms of the card are not known: %s', why)
+        self._said = why
+        if self._span:
+            self._tell_changes(self._span.alarms)
+
+    def _tell_changes(self, alarms: Alarm) -> None:
+        for each in Alarm:
+            if each in alarms ^ self._told:
+                self._tell(CardAlarmChanged(CardAlarm(each.names()[0]), each in alarms))
+        self._told = alarms
+
+    def outage(self) -> str | None:
+        """Why no seizure can reach the other end, or None."""
+        alarms = self._span.alarms if self._span else Alarm(0)
+        if down := (DOWN & alarms).names():
+            return f'the card is in alarm: {", ".join(down)}'
+        return 'the other end has no alignment' if Alarm.YELLOW in alarms else None
+
+    def status(self) -> dict[str, Any]:
+        """All of it, as plain values; nothing if it is not known."""
+        if not (span := self._span):
+            return {}
+        alarms = {str(each.name).lower(): int(each in span.alarms) for each in Alarm}
+        return {'span': span.number, **alarms, **span.counts}
+
+    def close(self) -> None:
+        """Nothing is known of it from now on."""
+        if self._file >= 0:
+            os.close(self._file)
+        self._file, self._span = -1, None

@@ -1,0 +1,238 @@
+"""Two machines of one trunk: one carries it, the other one stands by and is fed. A cluster engine or an operator says
+which; the holder does it, and FOLDER/holder has its role. This feeds, or is fed, as that says, and prepares what the
+holder takes: who says `take` to the holder itself has the trunk with what was fed up to then."""
+from __future__ import annotations
+
+import argparse
+import asyncio
+import logging
+import time
+from typing import Any
+
+from ..events import Tell
+from ..faults import words_of_fault
+from ..log_folder import LogPair
+from ..tls import context_of
+from .door import heard
+from .feed import FRESH, FeedServer
+from .held import HeldTrunk
+from .journal import NOTICE
+from .options import feeding_of
+from .process import start_of
+from .standby import FedLog, TrunkStandby
+from .tasks import Tasks, goes_on
+
+PATIENCE = 30.0             # seconds for a promotion or its reverse
+GRACE = 5.0                 # seconds for the other machine to be fed the rest
+AGAIN = 1.0                 # seconds before a port that cannot be had is tried again
+DONE, REVERSE = 'done', 'refused: the reverse was asked for meanwhile'
+NOT_TAKEN = 'the standby did not take the trunk, and this machine carries it again'
+
+logger = logging.getLogger(__name__)
+
+
+class TrunkPair:
+    """This machine's part of a trunk."""
+
+    def __init__(self, trunk: HeldTrunk, standby: TrunkStandby, feed: FeedServer) -> None:
+        self._trunk, self._standby, self._feed = trunk, standby, feed
+        self._follows: asyncio.Task[None] | None = None         # by which it is fed
+        self._change: asyncio.Task[str] | None = None           # what was asked for last
+        self._word, self._has_carried, self._tasks = '', False, Tasks()
+        standby.is_handed, standby.carries, standby.drains = self._is_handed, self._carries, self._drained
+
+    def begins(self, host: str, port: int) -> None:
+        """Begins to feed, and to follow the holder."""
+        self._tasks.begin(self._listen(host, port))
+        self.look()
+
+    async def _listen(self, host: str, port: int) -> None:
+        """Feeds who connects there, once it can be."""
+        said = ''
+        while True:
+            try:
+                await asyncio.start_server(self._feed.came, host, port)
+                return
+            except OSError as fault:
+                if (why := words_of_fault(fault, f'--feed {host}:{port}')) != said:
+                    logger.error('cannot listen: %s; it is tried again', why)
+                said = why
+            await asyncio.sleep(AGAIN)
+
+    # ---- the role that the holder has ----
+
+    def look(self) -> None:
+        """A few times a second: follows that role, unless it is changed here in this moment."""
+        if not self._change or self._change.done():
+            self._follow_role()
+
+    def _follow_role(self) -> None:
+        if not self._trunk.stands_by():
+            if self._follows:
+                self._is_taken()
+            self._has_carried |= self._carries()
+        elif self._stands() and not self._follows:
+            self._knows_own()
+            self._follows = asyncio.create_task(self._standby.run())
+
+    def _is_taken(self) -> None:
+        """Somebody else has said it to the holder."""
+        assert self._follows
+        self._follows.cancel()
+        self._follows, fed = None, self._standby.fed
+        self._reads_on(fed)
+        self._standby.knows(None)
+
+    def _reads_on(self, fed: FedLog | None) -> None:
+        """The next program begins with this log, or nobody knows with which."""
+        if fed:
+            self._trunk.reader.begins_anew((fed.place, fed.octets))
+        else:
+            self._trunk.reader.begins_anew()
+
+    def _knows_own(self) -> None:
+        """Nothing more is read of the log. What is known of the trunk is what this machine had itself, if it carried
+        it."""
+        reader, has_carried, self._has_carried = self._trunk.reader, self._has_carried, False
+        reader.read()
+        reader.rests = True
+        with goes_on('what is known of the trunk'):
+            if has_carried and (last := reader.last()):
+                self._standby.knows(self._own(last))
+
+    def _own(self, last: LogPair) -> FedLog:
+        reader = self._trunk.reader
+        own = FedLog(self._trunk.places().folder, last.place, reader.octets_at(last), self._trunk.numbers())
+        own.begin(last.state, last.records)
+        own.came = own.fresh = time.monotonic() - max(0.0, time.time() - reader.noted().written)
+        return own
+
+    # ---- what is asked ----
+
+    async def asked(self, word: str) -> str:
+        """The answer to `role`, `promote`, `demote` or `move`."""
+        its, stands = self.facts(), self._trunk.stands_by()
+        lacks = '' if stands or self._carries() else ', no program'
+        if word == 'role':
+            return f'{its["role"]}, {"fed" if its["fed"] else "not fed"}{lacks}'
+        if word == 'move' and (stands or lacks or not its['fed'] or not await self._feed.answers()):
+            return 'move: refused: no standby is fed here'
+        change = self._begins(word)
+        await asyncio.wait([change])
+        return f'{word}: {REVERSE if change.cancelled() else change.result()}'
+
+    def _begins(self, word: str) -> asyncio.Task[str]:
+        """One change at a time: another one ends that which goes on, the same one is that."""
+        change = self._change
+        if not change or change.done() or self._word != word:
+            if change:
+                change.cancel()
+            self._word, self._change = word, (change := asyncio.create_task(self._does(word)))
+        return change
+
+    async def _does(self, word: str) -> str:
+        try:
+            answer = await {'promote': self._take, 'demote': self._release, 'move': self._move}[word]()
+        except Exception as fault:      # pylint: disable=broad-exception-caught
+            logger.error('%s: %s', word, words_of_fault(fault))
+            answer = f'refused: {words_of_fault(fault)}'
+        with goes_on('the role of the trunk'):
+            self._follow_role()
+        return answer
+
+    async def _take(self) -> str:
+        """The trunk is to come here, with what is known of it up to now."""
+        trunk, standby, words = self._trunk, self._standby, 'take'
+        if follows := self._follows:
+            follows.cancel()
+            await asyncio.wait([follows])
+        self._follows = None
+        if self._stands():                  # (else what it has is there)
+            told = await standby.fill()
+            if standby.fed and (number := standby.fed.number()) is not None:
+                words, told = f'take {number}', f'{told}, packet {number} next'
+            logger.log(NOTICE, 'the trunk is taken: %s', told)
+            self._reads_on(standby.fed)
+        answer = await self._says(words)
+        if not trunk.stands_by():
+            standby.knows(None)
+        return answer
+
+    async def _release(self) -> str:
+        """It is to go, and the other machine has all of it."""
+        answer = await self._says('release')
+        await self._feed.finish(GRACE)
+        return answer
+
+    async def _move(self) -> str:
+        """The same, and the feed says that the other one is to carry it. If it does not this one takes it back."""
+        self._feed.hands_over, self._feed.is_carried = True, False
+        try:
+            answer = await self._release()
+            if answer != DONE or self._feed.is_carried:
+                return answer
+            logger.error('move: %s', NOT_TAKEN)
+            self._knows_own()
+            answer = await self._take()
+            return f'refused: {NOT_TAKEN}' if answer == DONE else answer
+        finally:
+            self._feed.hands_over = False
+
+    async def _says(self, words: str) -> str:
+        """What the holder answers, as far as that is not the word."""
+        trunk, path = self._trunk, self._trunk.places().hold
+        try:
+            answer = await heard(path, words, PATIENCE) or 'refused: the holder has ended'
+        except TimeoutError:
+            answer = f'not within {PATIENCE:g} s; it is tried on'
+        except OSError as fault:
+            answer = f'refused: there is no holder: {words_of_fault(fault, path)}'
+        trunk.look()
+        return answer.removeprefix(f'{words.split()[0]}: ')
+
+    def _is_handed(self, takes: bool) -> None:
+        """The other machine hands it over, or takes it back."""
+        self._begins('promote' if takes else 'demote')
+
+    # ---- what is known ----
+
+    def fed(self) -> FedLog | None:
+        """What is fed here, while this machine stands by."""
+        return self._standby.fed if self._trunk.stands_by() else None
+
+    def facts(self) -> dict[str, Any]:
+        """Role and feed, as plain values."""
+        standby, stands = self._standby, self._stands()
+        age = standby.age() if stands else self._feed.age()
+        return {'role': 'standby' if stands else 'active', 'fed': age is not None and age <= FRESH,
+                'feed_age': age and round(age, 3), **({} if not stands else {
+                    'feed_fault': standby.why or None, 'differs': standby.fed.circuits if standby.fed else []})}
+
+    def _drained(self, circuits: list[int]) -> None:
+        """The operator has blocked these at the other machine."""
+        kept = self._trunk.drains()
+        self._tasks.begin(kept.put(kept.now.only(circuits)))
+
+    def _stands(self) -> bool:
+        """Whether it stands by: it is active until its program has ended."""
+        return self._trunk.stands_by() and not self._trunk.state.program
+
+    def _carries(self) -> bool:
+        state, program = self._trunk.state, self._trunk.carried_by()
+        return bool(program and start_of(program) == state.started)
+
+    def close(self) -> None:
+        if self._follows:
+            self._follows.cancel()
+
+
+def open_pair(asked: argparse.Namespace, trunk: HeldTrunk, tell: Tell) -> TrunkPair | None:
+    """The pair that is asked for, if there is one. OSError if its certificate cannot be read."""
+    if not (places := feeding_of(asked)):
+        return None
+    (host, port), other = places
+    files = asked.tls or ()
+    feed = FeedServer(other[0], trunk, context_of(files, True))
+    pair = TrunkPair(trunk, TrunkStandby(other, host, files, trunk, tell), feed)
+    pair.begins(host, port)
+    return pair

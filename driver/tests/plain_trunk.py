@@ -1,0 +1,62 @@
+"""A trunk that is watched, of which a test says what its program and its log are."""
+from __future__ import annotations
+
+from contextlib import AbstractContextManager, nullcontext
+from types import SimpleNamespace
+from typing import Any, cast
+
+from e1gw.watcher.drains import KeptDrains
+from e1gw.watcher.reader import LogReader
+from e1gw.watcher.replay import ReplayVersion
+from e1gw.watcher.trunk import WatchedPlaces, WatchedTrunk
+
+
+class PlainTrunk(WatchedTrunk):
+    """Such a trunk, whose program has begun with the octet `first`."""
+
+    def __init__(self, reader: LogReader, folder: str, config: str, first: int = 0) -> None:
+        self._reader, self._config, self.first = reader, config, first
+        self._places = SimpleNamespace(folder=folder, tell=f'{folder}/tell', control='')
+
+    @property
+    def reader(self) -> LogReader:
+        return self._reader
+
+    def places(self) -> WatchedPlaces:
+        return cast(WatchedPlaces, self._places)
+
+    def drains(self) -> KeptDrains:
+        return KeptDrains('')
+
+    def stands_by(self) -> bool:
+        return False
+
+    def config_path(self) -> str:
+        return self._config
+
+    def version(self) -> AbstractContextManager[ReplayVersion]:
+        return nullcontext(cast(ReplayVersion, SimpleNamespace(name='')))
+
+    def facts(self) -> dict[str, Any]:
+        return {'fault': ''}
+
+    def outage(self) -> str | None:
+        return None
+
+    def place(self) -> int:
+        return self._reader.octets
+
+    def session(self) -> str:
+        return ''
+
+    def begun(self) -> int:
+        return self.first
+
+    async def ends(self) -> str:
+        return ''
+
+    async def reload(self, force: bool) -> str:
+        return ''
+
+    async def role(self, word: str) -> str:
+        return ''
