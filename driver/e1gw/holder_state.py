@@ -4,7 +4,7 @@ from __future__ import annotations
 
 import json
 import os
-from dataclasses import dataclass, fields
+from typing import NamedTuple
 
 INTERFACE = 1               # of this file, and of the words at FOLDER/hold
 MEMORY = '/dev/shm'         # where the folder of a trunk is by default
@@ -13,8 +13,7 @@ ACTIVE, STANDBY = 'active', 'standby'
 STARTED_BY = 'E1GW_HOLDER'          # in the environment of an e1gw-watch that a holder has started: its number
 
 
-@dataclass(frozen=True)
-class HolderState:
+class HolderState(NamedTuple):
     """`program` is the number of the process that carries the trunk, 0 without one, and `started` when that was started
     (field 22 of /proc/PID/stat); it goes on from its log for the reason `why`, `since` that time of day, and if
     `octets_lost` the one before it may have had some in hand. The line is `open` since `opened`, or has a `fault`.
@@ -44,7 +43,7 @@ class HolderState:
     state: str
 
     def spell(self) -> bytes:
-        return json.dumps(vars(self)).encode() + b'\n'
+        return json.dumps(self._asdict()).encode() + b'\n'
 
 
 def state_in(octets: bytes) -> HolderState:
@@ -54,7 +53,7 @@ def state_in(octets: bytes) -> HolderState:
     if plain.get('interface') != INTERFACE:
         return other_interface(plain.get('interface'))
     try:
-        its = {each.name: plain[each.name] for each in fields(HolderState)}
+        its = {name: plain[name] for name in HolderState._fields}
         return HolderState(**{name: tuple(value) if isinstance(value, list) else value for name, value in its.items()})
     except (KeyError, TypeError) as fault:
         raise ValueError(f'no state of a holder: {fault}') from None
@@ -65,8 +64,7 @@ def other_interface(number: object) -> HolderState:
                        '', False, ACTIVE, '', (), '')
 
 
-@dataclass(frozen=True)
-class TrunkPlaces:
+class TrunkPlaces(NamedTuple):
     """What the folder of a trunk has."""
 
     folder: str

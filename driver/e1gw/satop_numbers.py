@@ -5,8 +5,7 @@ from __future__ import annotations
 import json
 import os
 import time
-from dataclasses import dataclass
-from typing import Any, Mapping
+from typing import Any, Mapping, NamedTuple
 
 OCTETS_A_SECOND = 256_000
 ENDS = '.ends'              # behind the path of what the process says: a file with how it began
@@ -40,8 +39,7 @@ def begun_in(path: str) -> Mapping[str, Any]:
         return {}
 
 
-@dataclass(frozen=True)
-class PacketNumber:
+class PacketNumber(NamedTuple):
     """That of the next packet, and the octets of each."""
 
     number: int

@@ -194,7 +194,7 @@ def tried(asked: Asked) -> dict[str, Any]:
     version, log = in_pieces(tables, asked['senders'], name), last_of(asked['log'])
     new, in_call = check(asked, program, version.config(), log)
     told = effects(asked, version, new, calls_of(asked, log, in_call)) if asked['before'] else ''
-    return {'tried': vars(version), 'told': told}
+    return {'tried': version._asdict(), 'told': told}
 
 
 def calls_of(asked: Asked, log: LogPair | None, in_call: frozenset[int]) -> frozenset[int]:

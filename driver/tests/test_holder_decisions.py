@@ -3,7 +3,6 @@ from __future__ import annotations
 
 import itertools
 import unittest
-from dataclasses import replace
 from math import inf
 from typing import Iterator
 
@@ -65,21 +64,21 @@ class AfterAnEndTests(unittest.TestCase):
 
     def test_a_first_program_waits(self) -> None:
         """systemd starts a holder that ends at once again and again: one that is to stay tries by itself."""
-        end = replace(DIED, was_up=False, is_first=True, is_crash=False)
+        end = DIED._replace(was_up=False, is_first=True, is_crash=False)
         self.assertEqual(after_end(end), Decision(NextAct.START, Deaths((1.0,)), None, FIRST_PAUSE))
-        self.assertEqual(after_end(replace(end, reopens=False)), Decision(NextAct.FINISH, Deaths(), status=1))
+        self.assertEqual(after_end(end._replace(reopens=False)), Decision(NextAct.FINISH, Deaths(), status=1))
 
     def test_a_trial_goes_on(self) -> None:
         """A death counts; an end that was asked for, and a line that is opened again, do not."""
-        end = replace(DIED, trial=Trial(50.0))
+        end = DIED._replace(trial=Trial(50.0))
         self.assertEqual(after_end(end), Decision(NextAct.START, Deaths((1.0,)), Trial(50.0, 1)))
-        self.assertEqual(after_end(replace(end, reason=EndReason.RENEW, is_well=True)).trial, Trial(50.0))
-        self.assertEqual(after_end(replace(end, is_line_over=True)).trial, Trial(50.0))
+        self.assertEqual(after_end(end._replace(reason=EndReason.RENEW, is_well=True)).trial, Trial(50.0))
+        self.assertEqual(after_end(end._replace(is_line_over=True)).trial, Trial(50.0))
 
     def test_when_a_log_is_put_aside(self) -> None:
         """Only if five programs in a row crash on it before they are up. No number of kills does it: calls go on."""
-        end = replace(DIED, was_up=False)
-        kill, up = replace(end, is_crash=False), replace(end, was_up=True)
+        end = DIED._replace(was_up=False)
+        kill, up = end._replace(is_crash=False), end._replace(was_up=True)
         for its in ([kill] * 20, [*[up] * 4, kill] * 4, [up] * 20, [*[end] * 4, kill] * 3, [*[end] * 4, up] * 3):
             self.assertEqual({each.act for each in self.decided(its)}, {NextAct.START})
         decided = self.decided([*[up] * 9, *[end] * 10])
@@ -89,7 +88,7 @@ class AfterAnEndTests(unittest.TestCase):
         """What follows each of these, which come one behind the other."""
         found, deaths = list[Decision](), Deaths()
         for n, end in enumerate(its):
-            found.append(after_end(replace(end, deaths=deaths, now=n / 10)))
+            found.append(after_end(end._replace(deaths=deaths, now=n / 10)))
             deaths = found[-1].deaths
         return found
 

@@ -264,7 +264,7 @@ class VersionsTests(unittest.TestCase):
         """It comes back, and a circuit that lacks its socket has no port."""
         versions = self.version()
         assert versions.now
-        self.assertEqual(tried_in({**vars(versions.now.its)}), TRIED)
+        self.assertEqual(tried_in(versions.now.its._asdict()), TRIED)
         self.assertEqual((TRIED.config(), TRIED.config([1])), ('law = "A"\nonetwo', 'law = "A"\nbaretwo'))
         versions.now.close()
 

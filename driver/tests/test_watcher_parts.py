@@ -4,7 +4,6 @@ from __future__ import annotations
 import asyncio
 import os
 import unittest
-from dataclasses import replace
 from unittest import mock
 
 from . import support
@@ -36,22 +35,22 @@ OPENED = TrunkOpened('/dev/e1', {'trunk': '/dev/e1'})
 class HolderSaysTests(unittest.TestCase):
     def test_events(self) -> None:
         """Of each change, and of none twice."""
-        closed = replace(STATE, open=False, fault='the trunk has ended', program=0)
-        died = replace(STATE, program=18, why='the program ended by signal 9 (SIGKILL)')
-        lost = replace(STATE, why='the program says: cannot write the log: No space left')
+        closed = STATE._replace(open=False, fault='the trunk has ended', program=0)
+        died = STATE._replace(program=18, why='the program ended by signal 9 (SIGKILL)')
+        lost = STATE._replace(why='the program says: cannot write the log: No space left')
         cases: list[tuple[HolderState | None, HolderState, list[Event]]] = [
             (None, STATE, [OPENED]), (STATE, STATE, []), (STATE, died, []), (None, closed, []),
             (STATE, closed, [TrunkLost('the trunk has ended')]), (closed, STATE, [OPENED]),
-            (STATE, replace(STATE, opened=6.0, why='the trunk has ended'), [TrunkLost('the trunk has ended'), OPENED]),
-            (STATE, lost, [LogLost()]), (lost, replace(lost, since=9.0), []),
-            (STATE, replace(closed, role=STANDBY), [RoleGiven(STANDBY)])]
+            (STATE, STATE._replace(opened=6.0, why='the trunk has ended'), [TrunkLost('the trunk has ended'), OPENED]),
+            (STATE, lost, [LogLost()]), (lost, lost._replace(since=9.0), []),
+            (STATE, closed._replace(role=STANDBY), [RoleGiven(STANDBY)])]
         for before, now, told in cases:
             self.assertEqual(events_of(before, now, {}), told)
 
     def test_what_it_means(self) -> None:
         self.assertEqual(state_in(STATE.spell()), STATE)
         self.assertEqual([fault_of(each) for each in (
-            STATE, replace(STATE, fault='away'), replace(STATE, role=STANDBY), other_interface(9))],
+            STATE, STATE._replace(fault='away'), STATE._replace(role=STANDBY), other_interface(9))],
             ['', 'away', 'standby', f'the holder has interface 9, and its watcher knows {INTERFACE}'])
         self.assertEqual([wait_of(STATE.words), wait_of(())], [700, 200])
         self.assertEqual([nearest([0, 5000, 9000], 5512), nearest([], 512), nearest([], -512), nearest([0], 200_000)],

@@ -1,9 +1,11 @@
-"""What a holder does next: pure functions of what is known, without a clock, a file or a process."""
+"""What a holder does next: pure functions of what is known, without a clock, a file or a process.
+
+What a holder imports is a part of the silence behind its death: hence NamedTuples, not dataclasses."""
 from __future__ import annotations
 
-from dataclasses import dataclass, replace
 from enum import Enum
 from math import inf
+from typing import NamedTuple
 
 DEATHS, WITHIN = 5, 2.0                 # programs that died, within so many seconds: the next one waits
 FIRST_PAUSE, MOST_PAUSE = 0.5, 10.0     # seconds that it waits, at first and at most
@@ -45,8 +47,7 @@ class NextAct(Enum):
     FINISH = 'the holder ends'
 
 
-@dataclass(frozen=True)
-class Deaths:
+class Deaths(NamedTuple):
     """Programs that died shortly one after another, and how long the next one waits; and how many of the last ones
     crashed before they carried the trunk."""
 
@@ -62,22 +63,20 @@ class Deaths:
         return Deaths(times, pause, self.crashes + 1 if is_crash else 0)
 
 
-@dataclass(frozen=True)
-class Trial:
+class Trial(NamedTuple):
     """The version of now is tried, behind another one that may come back."""
 
     until: float = inf
     deaths: int = 0
 
     def is_up(self, now: float) -> Trial:
-        return replace(self, until=min(self.until, now + TRIED))
+        return self._replace(until=min(self.until, now + TRIED))
 
     def with_death(self) -> Trial:
-        return replace(self, deaths=self.deaths + 1)
+        return self._replace(deaths=self.deaths + 1)
 
 
-@dataclass(frozen=True)
-class EndOfProgram:
+class EndOfProgram(NamedTuple):
     """A program that has ended, or that does not come up in time and was killed."""
 
     reason: EndReason
@@ -93,8 +92,7 @@ class EndOfProgram:
     now: float
 
 
-@dataclass(frozen=True)
-class Decision:
+class Decision(NamedTuple):
     """What follows: behind a pause, with the deaths and the trial that then count. `status` is that of the holder."""
 
     act: NextAct
@@ -132,11 +130,11 @@ def _never_up(end: EndOfProgram) -> Decision:
         return Decision(NextAct.FINISH, end.deaths, status=1)
     step = _died(end)
     if end.fault is EndFault.LOG_WRITE:
-        return replace(step, act=NextAct.MOVE_LOG)
+        return step._replace(act=NextAct.MOVE_LOG)
     if step.deaths.crashes >= DEATHS:
         # of a log with which each one crashes none is to be had
-        return replace(step, act=NextAct.NEW_LOG, deaths=replace(step.deaths, crashes=0), pause=0.0)
-    return replace(step, pause=max(FIRST_PAUSE, step.pause)) if end.is_first else step
+        return step._replace(act=NextAct.NEW_LOG, deaths=step.deaths._replace(crashes=0), pause=0.0)
+    return step._replace(pause=max(FIRST_PAUSE, step.pause)) if end.is_first else step
 
 
 def _died(end: EndOfProgram) -> Decision:
@@ -150,8 +148,7 @@ def _died(end: EndOfProgram) -> Decision:
 
 # ---- what a program lacks ----
 
-@dataclass(frozen=True)
-class Renewals:
+class Renewals(NamedTuple):
     """Programs that followed since a socket, a port or the log was gone: when the next one may."""
 
     due: float = -inf
@@ -164,8 +161,7 @@ class Renewals:
 
 # ---- a line that is opened ----
 
-@dataclass(frozen=True)
-class Openings:
+class Openings(NamedTuple):
     """When the line was opened last, and when it may be opened again: at once, but later and later if it ends soon."""
 
     began: float = -inf
@@ -173,7 +169,7 @@ class Openings:
     due: float = -inf
 
     def with_one(self, now: float) -> Openings:
-        return replace(self, began=now)
+        return self._replace(began=now)
 
     def with_end(self, now: float) -> Openings:
         pause = min(MOST_LINE_PAUSE, max(LINE_PAUSE, 2 * self.pause)) if now < self.began + QUICK else 0.0

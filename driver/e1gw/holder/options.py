@@ -2,8 +2,7 @@
 from __future__ import annotations
 
 import os
-from dataclasses import dataclass
-from typing import Callable, Mapping
+from typing import Callable, Mapping, NamedTuple
 
 from ..trunks import Stream, host_and_port, open_tcp, open_unix
 
@@ -52,8 +51,7 @@ class OptionsRefused(Exception):
     """What is wrong with a command line."""
 
 
-@dataclass(frozen=True)
-class LineWants:
+class LineWants(NamedTuple):
     """What the line is. `open` opens it, but for SAToP, which has two ends and the options of `e1gw satop`."""
 
     trunk: str                  # how it is named
@@ -65,8 +63,7 @@ class LineWants:
     folder: str                 # .. which is known there by the next holder
 
 
-@dataclass(frozen=True)
-class Options:
+class Options(NamedTuple):
     """What is asked for. `words` are options of each program, `watch` those of e1gw-watch; None if none is started."""
 
     config: str

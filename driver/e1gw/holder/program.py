@@ -9,9 +9,8 @@ import signal
 import socket
 import struct
 from contextlib import suppress
-from dataclasses import dataclass
 from math import inf
-from typing import Sequence
+from typing import NamedTuple, Sequence
 
 from ..memory import in_memory
 from .decisions import EndFault
@@ -26,8 +25,7 @@ CRASHES = signal.SIGSEGV, signal.SIGBUS, signal.SIGABRT, signal.SIGILL, signal.S
 STARTED = 19                # the place of that field in proc(5)'s stat, behind the name
 
 
-@dataclass(frozen=True)
-class ProgramWants:
+class ProgramWants(NamedTuple):
     """What a program is started with: files, the ends of the line, the circuits' sockets, and words."""
 
     program: int

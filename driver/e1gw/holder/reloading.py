@@ -69,7 +69,7 @@ class Reloads:
         self._program = program = os.open(options.program, os.O_RDONLY | os.O_CLOEXEC)
         asked = {'what': 'try', 'program': program, 'config': options.config, 'senders': options.senders,
                  'wait': options.wait, 'log': self._log(), 'force': request.text.endswith(' force'),
-                 'before': vars(before.its) if before else None, 'program_before': before.program if before else -1}
+                 'before': before.its._asdict() if before else None, 'program_before': before.program if before else -1}
         try:
             self._job = Job(asked, [program, before.program] if before else [program])
         except OSError:

@@ -4,18 +4,16 @@ from __future__ import annotations
 
 import json
 import os
-from dataclasses import dataclass
 from functools import cached_property
 from math import inf
-from typing import Any, Collection, Mapping
+from typing import Any, Collection, Mapping, NamedTuple
 
 from ..memory import in_memory
 from .decisions import Trial
 from .sockets import Address
 
 
-@dataclass(frozen=True)
-class Tried:
+class Tried(NamedTuple):
     """What a trial has found. The text of a configuration is in pieces, in which names are addresses: what is before
     the circuits, and each circuit with its ports and without; `ports` has those that are to be bound."""
 
@@ -30,7 +28,7 @@ class Tried:
         return self.head + ''.join(without if n in lacking else its for n, (its, without) in self.circuits.items())
 
     def text(self) -> str:
-        return json.dumps(vars(self))
+        return json.dumps(self._asdict())
 
 
 def tried_in(plain: Mapping[str, Any]) -> Tried:
@@ -39,12 +37,11 @@ def tried_in(plain: Mapping[str, Any]) -> Tried:
                  {int(n): (host, port) for n, (host, port) in plain['ports'].items()}, plain['senders'], plain['name'])
 
 
-@dataclass(frozen=True)
 class Version:
     """A program, open, and a file in memory that has what was tried."""
 
-    program: int
-    file: int
+    def __init__(self, program: int, file: int) -> None:
+        self.program, self.file = program, file
 
     @cached_property
     def its(self) -> Tried:

@@ -57,6 +57,8 @@ def typed(kind: Any, plain: Any) -> Any:
     if dataclasses.is_dataclass(kind):
         hints = get_type_hints(kind)
         return kind(**{field.name: typed(hints[field.name], plain[field.name]) for field in dataclasses.fields(kind)})
+    if hasattr(kind, '_fields'):            # (a NamedTuple)
+        return kind(*(typed(its, value) for its, value in zip(get_type_hints(kind).values(), plain, strict=True)))
     origin, of = get_origin(kind), get_args(kind)
     if origin in (Union, types.UnionType):
         return None if plain is None and type(None) in of else typed(of[0], plain)
