@@ -15,7 +15,7 @@ import tomllib
 from collections.abc import Callable, Iterator
 from dataclasses import dataclass, field, replace
 
-from .support import SECONDS, TOP, Exchange, config_text, program, run
+from .support import TOP, Exchange, config_text, program, run
 
 from e1gw.exchange import ACKNOWLEDGED, ANSWERED, IDLE
 from e1gw.g711 import TONES, VALUES
@@ -51,7 +51,7 @@ def configured(config: str) -> Iterator[str]:
 def page_of(*words: str, status: int = 0, given: bytes = b'') -> tuple[str, str]:
     """The page that the command draws, and what it says."""
     done = subprocess.run([COMMAND, '--program', program(), *words], input=given, stdout=subprocess.PIPE,
-                          stderr=subprocess.PIPE, check=False, timeout=SECONDS)
+                          stderr=subprocess.PIPE, check=False)
     assert done.returncode == status, done.stderr.decode()
     return done.stdout.decode(), PROGRESS.sub('', done.stderr.decode())
 

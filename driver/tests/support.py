@@ -17,33 +17,23 @@ import subprocess
 import sys
 import tempfile
 import termios
-import time
 import unittest
-from typing import Any, Callable, Iterator, Mapping, TypeVar
+from typing import Any, Callable, Iterator, Mapping
 
 from . import limits
 from e1gw.__main__ import COMMANDS
 from e1gw.exchange import Exchange
 from e1gw.session import Kind, records_in
 from e1gw.testing import service
-from e1gw.testing.limited import SECONDS
 from e1gw.testing.service import Service
+from e1gw.testing.waits import SECONDS, eventually, until
 
 TOP = os.path.dirname(os.path.dirname(os.path.dirname(os.path.abspath(__file__))))
 sys.dont_write_bytecode = not sys.pycache_prefix or 'E1GW_MUTANT' in os.environ
 
 __all__ = ['Exchange', 'FolderCase', 'LoopCase', 'SECONDS', 'Service', 'TOP', 'all_read', 'chance_of', 'config_text',
-           'connected', 'in_memory', 'launcher', 'listening', 'octets_in', 'octets_of', 'program', 'read_from', 'ran',
-           'remove', 'run', 'said_by', 'state_of', 'stopped', 'text_of', 'until', 'whole_lines']
-
-T = TypeVar('T')
-
-
-def until(holds: Callable[[], T | None], pause: float = 0.005) -> T:
-    """Waits until something holds, and returns what it is."""
-    while not (found := holds()):
-        time.sleep(pause)
-    return found
+           'connected', 'eventually', 'in_memory', 'launcher', 'listening', 'octets_in', 'octets_of', 'program',
+           'read_from', 'ran', 'remove', 'run', 'said_by', 'state_of', 'stopped', 'text_of', 'until', 'whole_lines']
 
 
 def octets_of(path: str) -> bytes:
@@ -64,12 +54,12 @@ def whole_lines(path: str) -> list[str]:
 
 def said_by(process: subprocess.Popen[bytes], path: str, pattern: str | re.Pattern[str], since: int) -> re.Match[str]:
     """What a process prints to a file behind this place, in whole lines, once it is so. (It may end behind it.)"""
-    while True:
+    def said() -> re.Match[str] | None:
         has_ended, text = process.poll() is not None, text_of(path)
-        if found := re.compile(pattern).search(text, since, text.rfind('\n') + 1):
-            return found
-        assert not has_ended, f'not said: {pattern}\n{text}'
-        time.sleep(0.002)
+        found = re.compile(pattern).search(text, since, text.rfind('\n') + 1)
+        assert found or not has_ended, f'not said: {pattern}\n{text}'
+        return found
+    return until(said, 0.002)
 
 
 def octets_in(session: bytes) -> bytes:
@@ -147,16 +137,14 @@ class LoopCase(FolderCase, unittest.IsolatedAsyncioTestCase):
 
     async def until(self, holds: Callable[[], Any]) -> Any:
         """Waits until something holds, and returns what it is."""
-        while not (found := holds()):
-            await asyncio.sleep(0.002)
-        return found
+        return await eventually(holds)
 
 
 def program() -> str:
     """The program that E1GW names, or that of the tree where it is built. The test is passed over without one."""
     path = os.environ.get('E1GW') or os.path.join(TOP, 'out', 'e1gw')
     if not os.access(path, os.X_OK):
-        raise unittest.SkipTest('no program: E1GW names one, scripts/drivers builds it')
+        raise unittest.SkipTest('no program: --e1gw names one, scripts/build builds it')
     return path
 
 
@@ -220,12 +208,11 @@ def state_of(pid: int) -> str:
 
 def ran(*words: str, **more: Any) -> tuple[int, str, str]:
     """The status of a command, what it writes, and what it says."""
-    done = subprocess.run(words, capture_output=True, text=True, check=False, stdin=subprocess.DEVNULL, timeout=SECONDS,
-                          **more)
+    done = subprocess.run(words, capture_output=True, text=True, check=False, stdin=subprocess.DEVNULL, **more)
     assert 'Traceback' not in done.stderr, done.stderr
     return done.returncode, done.stdout, done.stderr
 
 
 def run(*words: str, given: bytes = b'') -> bytes:
     """What the program writes of this input. Its status must be 0."""
-    return subprocess.run([program(), *words], input=given, stdout=subprocess.PIPE, check=True, timeout=SECONDS).stdout
+    return subprocess.run([program(), *words], input=given, stdout=subprocess.PIPE, check=True).stdout

@@ -226,8 +226,7 @@ class EventReaderTests(unittest.IsolatedAsyncioTestCase):
             for name in ('first', 'second', 'third'):
                 reader = await self.connect(name)
             self.assertEqual([*await self.told(reader)], ['c1', 'c2'])
-            while not self.closed:
-                await asyncio.sleep(0.001)
+            await support.eventually(lambda: self.closed)
         self.assertEqual(self.closed, ['first'])
 
 

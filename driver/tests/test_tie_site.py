@@ -12,6 +12,7 @@ import unittest
 from contextlib import suppress
 from typing import Any
 
+from .support import eventually
 from .test_tie_circuit import ACKED, ANSWERED
 from .ties import ANSWER, G726, IDLE, PCMA, SEIZED, ClockedCase, StandInDriver, said_by_tie
 from e1gw.events import Report
@@ -86,10 +87,13 @@ class SiteCase(ClockedCase):
     async def listens(self) -> SiteEnd:
         """West, once somebody can connect."""
         west, _ = self.end('west')
-        while True:
-            with suppress(OSError), socket.create_connection(('127.0.0.1', self.port), 1):
-                return west
-            await asyncio.sleep(0.01)
+        await eventually(self.is_open, 0.01)
+        return west
+
+    def is_open(self) -> bool:
+        with suppress(OSError), socket.create_connection(('127.0.0.1', self.port), 1):
+            return True
+        return False
 
     async def connected(self, *octets: bytes, **more: Any) -> tuple[asyncio.StreamReader, asyncio.StreamWriter]:
         """Somebody who connects, and sends this."""

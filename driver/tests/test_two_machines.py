@@ -387,9 +387,10 @@ class SatopNumberTests(PairCase):
 
     def goes(self, holds: Callable[[], object]) -> None:
         """Packets come and go until something holds."""
-        while not holds():
+        def held() -> object:
             self.come()
-            time.sleep(0.001)
+            return holds()
+        support.until(held, 0.001)
 
     def does(self, machine: Machine, word: str, taker: Machine) -> None:
         """Does it, and packets of the one that takes the trunk come."""

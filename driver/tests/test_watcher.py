@@ -23,6 +23,7 @@ from e1gw.holder_state import STARTED_BY, TrunkPlaces
 from e1gw.session import Command
 from e1gw.testing.ports import free_port
 from e1gw.testing.service import ask
+from e1gw.testing.waits import not_within
 from e1gw.watcher.memo import WatchNote, note_in
 from e1gw.watcher.note import NoteFiles
 
@@ -71,14 +72,15 @@ class WatcherCase(HolderCase):
 
     def known(self, holds: Callable[[dict[str, Any]], object] = lambda status: True) -> dict[str, Any]:
         """The status, once this holds of it. The program tells at the next octets."""
-        pause = 0.001
-        while True:
+        pause, end = 0.001, time.monotonic() + SECONDS
+        while time.monotonic() < end:
             with contextlib.suppress(OSError, EOFError):
                 status: dict[str, Any] = json.loads(self.ask('status json'))
                 if status['program'] and holds(status):
                     return status
             self.step()
             time.sleep(pause := min(2 * pause, 0.25))
+        raise AssertionError(not_within(holds))
 
 
 def events_in(path: str, *without: str) -> list[dict[str, Any]]:

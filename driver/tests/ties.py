@@ -82,8 +82,7 @@ class ClockedCase(unittest.IsolatedAsyncioTestCase):
         return self.tasks[-1]
 
     async def until(self, holds: Callable[[], object]) -> None:
-        while not holds():
-            await asyncio.sleep(0.01)
+        await support.eventually(holds, 0.01)
 
 
 class StandInDriver:

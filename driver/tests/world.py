@@ -159,9 +159,7 @@ class World:
     def status(self) -> dict[str, Any]:
         """The status of now."""
         began = round(time.time(), 3)
-        while (found := self.told())['time'] < began:
-            time.sleep(0.01)
-        return found
+        return support.until(lambda: found if (found := self.told())['time'] >= began else None, 0.01)
 
     def state(self, circuit: int) -> str:
         return str(self.told()['circuits'][circuit - 1]['state'])

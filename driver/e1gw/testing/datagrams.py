@@ -11,12 +11,11 @@ from typing import Any
 
 from ..exchange import ACKNOWLEDGED, Exchange, ServeProcess
 from ..session import Codec, Packet
-from . import limited
 from .ports import free_ports
 
 Wrongs = Iterator[str]      # what is not as it must be
 
-SECONDS = limited.SECONDS   # for one session
+SECONDS = 900               # for one session
 PCMA = 8
 IDLE = 0xD5
 PACKET = 80                 # samples of a packet of 10 ms, and its octets in G.711

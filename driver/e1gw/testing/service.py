@@ -9,7 +9,7 @@ import subprocess
 import sys
 from typing import Any
 
-from .limited import SECONDS
+from .waits import SECONDS
 
 LAUNCHER = os.path.join(os.path.dirname(os.path.dirname(os.path.dirname(os.path.realpath(__file__)))), 'e1gw-trunk')
 
