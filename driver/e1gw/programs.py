@@ -16,9 +16,6 @@ SENDERS = {'any': 'datagrams of any sender are received (--senders any)',
            'peer': 'datagrams are received from peer_host and peer_port alone (--senders peer)'}
 
 
-UNPROVED = 'e1gw.unproved'  # what scripts/build --unproved makes
-
-
 def program_of(asked: str | None, how: str | None = None) -> str:
     """The program that is named, or that of this repository, by scripts/build with this word (what it says goes to
     standard error), or the one on the path."""
@@ -33,13 +30,10 @@ def program_of(asked: str | None, how: str | None = None) -> str:
     return shutil.which('e1gw') or 'e1gw'
 
 
-def proved_program_of(asked: str | None) -> str:
-    """The same for what carries calls, as a path: it is not built here. ValueError if it is not proved."""
-    program = program_of(asked, '--built')
-    program = os.path.abspath(shutil.which(program) or program)
-    if os.path.basename(os.path.realpath(program)) == UNPROVED:
-        raise ValueError(f'{program} is not proved, and only a proved program carries calls: scripts/build makes one')
-    return program
+def path_of_program(asked: str | None) -> str:
+    """The same for what carries calls, as a path: it may not be proved, which its version says."""
+    program = program_of(asked, '--unproved')
+    return os.path.abspath(shutil.which(program) or program)
 
 
 def version_of(program: str) -> str:

@@ -20,7 +20,7 @@ from typing import Any, Callable, Iterable, Mapping, Sequence
 from .config_faults import config_words
 from .fault_words import words_of_fault
 from .holder.log import remove
-from .holder.version import Tried, tried_in
+from .holder.version import NOT_PROVED, Tried, tried_in
 from .lines import IN_CALL, config_text, no_peers, tables_of
 from .log_folder import LogFiles, LogPair, LogWriter
 from .memory import in_memory
@@ -77,12 +77,14 @@ def check(asked: Asked, program: int, config: str, begun: LogPair | None) -> tup
 
 
 def version_name(asked: Asked) -> str:
-    """The version that a program says; nothing if it says none."""
+    """The version that a program says; nothing if it says none. What was built without proof has it in its name."""
     program = asked['program']
     done = subprocess.run(['e1gw', '--version'], executable=f'/proc/self/fd/{program}', pass_fds=[program],
                           stdin=subprocess.DEVNULL, capture_output=True, timeout=asked['seconds'], check=False)
     name, _, version = done.stdout.decode(errors='replace').strip().partition(' ')
-    return version if name == 'e1gw' else ''
+    if name != 'e1gw':
+        return ''
+    return f'{version}, {NOT_PROVED}' if os.readlink(f'/proc/self/fd/{program}').endswith('.unproved') else version
 
 
 # ---- a configuration ----

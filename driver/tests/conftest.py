@@ -28,7 +28,7 @@ def pytest_configure(config: pytest.Config) -> None:
     folder = tempfile.TemporaryDirectory(dir='/dev/shm' if os.path.isdir('/dev/shm') else None)
     config.add_cleanup(folder.cleanup)
     program = os.path.realpath(config.option.e1gw or TOP / 'out' / 'e1gw')
-    if program.endswith('.unproved'):           # which e1gw-trunk refuses by its name
+    if program.endswith('.unproved'):           # (its version would say so)
         program = shutil.copy(program, f'{folder.name}/e1gw')
     sys.pycache_prefix = folder.name
     os.environ |= {'E1GW': program, 'E1GW_SEED': str(config.option.seed), 'PYTHONPYCACHEPREFIX': folder.name,

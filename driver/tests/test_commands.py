@@ -85,25 +85,10 @@ class ProgramBuiltTests(support.FolderCase):
         return ran(sys.executable, '-c', code, env=AROUND | {'E1GW': ''})
 
     def test_what_is_built(self) -> None:
-        """The progress is shown, and a build that fails ends it. For calls none is built."""
+        """The progress is shown, and a build that fails ends it."""
         said = 'e1gw: proving gw_switch\n'
         self.assertEqual([self.built(0), self.built(70)], [(0, '/program\n', said), (70, '', said)])
-        self.assertEqual([self.built(status, 'proved_program_of')[:2] for status in (0, 70)],
-                         [(0, '/program--built\n'), (70, '')])
-
-    def test_for_calls_none_without_proof_is_taken(self) -> None:
-        """By its name, also behind a link; of the words, the variable or the path."""
-        os.makedirs(self.path('bin'))
-        program = self.write('bin/e1gw.unproved', '#!/bin/sh\necho e1gw 0.1.0\n')
-        os.chmod(program, 0o755)
-        os.symlink(program, self.path('bin/e1gw'))
-        words = [os.path.join(DRIVER, 'e1gw-trunk'), '--config', 'c', '--unix', 'u']
-        for path, variable in (program, ''), ('', self.path('bin/e1gw')), ('e1gw', ''):
-            with self.subTest(path=path, variable=variable):
-                status, out, said = ran(*words, *['--program', path] * bool(path), env=AROUND | {
-                    'E1GW': variable, 'PATH': f'{self.path("bin")}:{os.environ["PATH"]}'})
-                self.assertEqual((status, out, said.count('\n')), (2, '', 1))
-                self.assertRegex(said, 'is not proved, and only a proved program carries calls: scripts/build ')
+        self.assertEqual(self.built(0, 'path_of_program')[:2], (0, '/program--unproved\n'))
 
 
 def page(name: str) -> str:

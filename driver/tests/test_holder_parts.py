@@ -427,8 +427,6 @@ class HolderOptionsTests(unittest.TestCase):
                 (['--unix', 'a', '--crc4', '--clear'], '--crc4')):
             with self.assertRaisesRegex(OptionsRefused, why):
                 options_of(self.options(*words), {})
-        with self.assertRaisesRegex(OptionsRefused, 'not proved'):
-            options_of(['--config', 'c', '--unix', 'a', '--program', '/x/e1gw.unproved'], {})
 
 
 class LoopTests(unittest.TestCase):

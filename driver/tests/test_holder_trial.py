@@ -2,6 +2,7 @@
 from __future__ import annotations
 
 import os
+import shutil
 import socket
 from typing import Any, Mapping
 from unittest import mock
@@ -42,7 +43,16 @@ class TrialTests(support.FolderCase):
             path = self.write('pieces.toml', found.config(lacking))
             self.assertEqual(support.ran(support.program(), 'check', '--config', path)[0], 0)
         self.assertEqual('local_port' in found.config([1]), False)
-        self.assertEqual(found.name, support.run('--version').decode().split()[1])
+        version = support.run('--version').decode().split()[1]
+        self.assertEqual((found.name, found.is_proved), (version, True))
+
+    def test_one_without_proof(self) -> None:
+        """Its version says so, by the name that it was built by."""
+        path = shutil.copy(support.program(), self.path('e1gw.unproved'))
+        with open(path, 'rb') as file:
+            self.file = file.fileno()
+            found = tried_in(self.answer()['tried'])
+        self.assertEqual((found.name[-12:], found.is_proved), (', not proved', False))
 
     def test_refused(self) -> None:
         """For good, or until something is back."""

@@ -152,12 +152,12 @@ def words_of(asked: Mapping[str, str], wait: int) -> tuple[str, ...]:
 
 
 def program_of(asked: str, around: Mapping[str, str]) -> str:
-    """The path of the program, which is proved."""
+    """The path of the program."""
     path = asked or around.get('E1GW', '')
-    if '/' in path and not os.path.basename(os.path.realpath(path)).endswith('.unproved'):
+    if '/' in path:
         return os.path.abspath(path)
-    from ..programs import proved_program_of
-    return proved_program_of(path)
+    from ..programs import path_of_program
+    return path_of_program(path)
 
 
 # ---- the line ----

@@ -13,6 +13,9 @@ from .decisions import Trial
 from .sockets import Address
 
 
+NOT_PROVED = 'not proved'   # at the end of the version of a program that was built without proof
+
+
 class Tried(NamedTuple):
     """What a trial has found. The text of a configuration is in pieces, in which names are addresses: what is before
     the circuits, and each circuit with its ports and without; `ports` has those that are to be bound."""
@@ -22,6 +25,10 @@ class Tried(NamedTuple):
     ports: Mapping[int, Address]
     senders: str
     name: str                   # what the program says as its version
+
+    @property
+    def is_proved(self) -> bool:
+        return not self.name.endswith(NOT_PROVED)
 
     def config(self, lacking: Collection[int] = ()) -> str:
         """The text of the configuration, in which these circuits have no ports."""

@@ -88,7 +88,7 @@ class Watcher:
         if not (state := await state_of(self._places, self._ending)):
             return False
         self._make_folder()
-        asked, note, program = self._asked, self._noted(), program_of(self._asked.program, '--built')
+        asked, note, program = self._asked, self._noted(), program_of(self._asked.program, '--unproved')
         self._trunk = trunk = HeldTrunk(self._places, state, program, asked.config,
                                         lambda event: watch.tell(event), note.held if note else None)
         wants = recording_of(asked, wait_of(state.words))
