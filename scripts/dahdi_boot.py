@@ -48,7 +48,7 @@ PACKAGE = {
     'dist/system/e1gw-watch@.service': f'{UNITS}/e1gw-watch@.service',
     'dist/system/e1gw-.service.d/10-e1gw.conf': f'{UNITS}/e1gw-.service.d/10-e1gw.conf',
     'dist/system/example.toml': 'etc/e1gw/example.toml', 'dist/system/dscp': 'usr/lib/e1gw/dscp',
-    'dist/system/e1gw.sysusers': 'usr/lib/sysusers.d/e1gw.conf', 'driver/launch': 'usr/lib/e1gw/launch',
+    'dist/system/e1gw.sysusers': 'usr/lib/sysusers.d/e1gw.conf',
     'dist/system/e1gw.rules': 'usr/lib/udev/rules.d/61-e1gw.rules',
     'docs/START.md': 'e1gw/docs/START.md', 'docs/SYMPTOMS.md': 'e1gw/docs/SYMPTOMS.md'}
 COMMANDS = 'e1gw-config', 'e1gw-ctl', 'e1gw-trunk', 'e1gw-watch'
@@ -87,7 +87,9 @@ def put_package(its: MachineFiles, folder: Path, program: str) -> None:
                     ignore=shutil.ignore_patterns('__pycache__'))
     put(program, folder / 'usr/bin/e1gw')
     for name in COMMANDS:
-        (folder / 'usr/bin' / name).symlink_to('../lib/e1gw/launch')
+        text = re.sub('(?m)^sys.path.*', "sys.path[0] = '/usr/lib/e1gw'", Path(TOP, 'bin', name).read_text())
+        (folder / 'usr/bin' / name).write_text(text)
+        (folder / 'usr/bin' / name).chmod(0o755)
     (folder / 'usr/bin/python3').symlink_to(Path(PYTHON).name)
     for name, text in ('passwd', 'root:x:0:0::/:/bin/sh\n'), ('group', 'root:x:0:\n'), ('machine-id', f'{1:032}\n'):
         (folder / 'etc' / name).write_text(text)

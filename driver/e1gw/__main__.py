@@ -1,4 +1,4 @@
-"""Starts a command: python3 -m e1gw NAME [WORD..], as the program e1gw-NAME does.
+"""Starts a command: python3 -m e1gw NAME [WORD..], as the program bin/e1gw-NAME does.
 
 The names are {names}."""
 import importlib
@@ -51,20 +51,6 @@ def start(name: str) -> NoReturn:
     if '_ARGCOMPLETE' in os.environ:
         complete()
     sys.exit(load(name).main())
-
-
-def named(path: str) -> str:
-    """The command that a program is named by, or else one of the links that the path leads through."""
-    while (name := os.path.basename(path).removeprefix('e1gw-')) not in COMMANDS:
-        if not os.path.islink(path):
-            refuse(f'{path}: no command of e1gw has this name')
-        path = os.path.join(os.path.dirname(path), os.readlink(path))
-    return name
-
-
-def launch() -> NoReturn:
-    """Runs the command by whose name this process was started."""
-    start(named(sys.argv[0]))
 
 
 def main() -> None:

@@ -21,6 +21,7 @@ import unittest
 from typing import Any, Callable, Iterator, Mapping
 
 from . import limits
+from .start import PROGRAM
 from e1gw.__main__ import COMMANDS
 from e1gw.exchange import Exchange
 from e1gw.session import Kind, records_in
@@ -96,7 +97,10 @@ def _launchers() -> str:
     folder = in_memory()
     atexit.register(folder.cleanup)
     for name in COMMANDS:
-        os.symlink(os.path.join(TOP, 'driver', 'tests', 'start'), os.path.join(folder.name, f'e1gw-{name}'))
+        path = os.path.join(folder.name, f'e1gw-{name}')
+        with open(path, 'w', encoding='utf-8') as file:
+            file.write(PROGRAM.format(sys.executable, os.path.join(TOP, 'driver'), name))
+        os.chmod(path, 0o755)
     return folder.name
 
 

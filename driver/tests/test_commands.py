@@ -1,5 +1,5 @@
-"""The commands in Python: one launcher, under each name, in a clone and as a package of Python; and their options and
-words, as the manual pages name them and bash offers them."""
+"""The commands in Python: their programs in a clone and as a package of Python; and their options and words, as the
+manual pages name them and bash offers them."""
 from __future__ import annotations
 
 import argparse
@@ -20,7 +20,7 @@ from e1gw.picture import main as picture
 from e1gw.watcher import commands as control, main as watcher
 from e1gw.tie import main as tie
 
-DRIVER = os.path.join(support.TOP, 'driver')
+BIN, DRIVER = (os.path.join(support.TOP, name) for name in ('bin', 'driver'))
 AROUND = os.environ | {'PYTHONPATH': DRIVER}
 COMPLETION = os.path.join(support.TOP, 'dist', 'completions', 'e1gw-ctl.bash')
 ASKS = '''. "$0"; cd "$1"; COMP_LINE=$2 COMP_POINT=${#2} COMP_TYPE=9; _python_argcomplete "./${2%% *}"
@@ -29,17 +29,6 @@ DEBIAN = '/usr/bin:/bin'            # whose python3 has Debian's packages
 
 
 class CommandNameTests(support.FolderCase):
-    def starters(self) -> dict[str, str]:
-        """The programs in the clone that start a command, by its name."""
-        paths = [os.path.join(support.TOP, folder, name) for folder in ('driver', 'tools', 'examples')
-                 for name in os.listdir(os.path.join(support.TOP, folder))]
-        found = {}
-        for path in filter(os.path.isfile, paths):
-            name = os.path.basename(path)
-            if 'from e1gw.__main__ import launch' in support.text_of(path) and name != 'launch':
-                found[name.removeprefix('e1gw-')] = path
-        return found
-
     def test_one_text_finds_the_package(self) -> None:
         """The toolchain takes no links, so each folder with scripts has the same file."""
         found = [os.path.join(folder, 'paths.py') for folder, _, names in os.walk(support.TOP)
@@ -47,31 +36,27 @@ class CommandNameTests(support.FolderCase):
         self.assertGreater(len(found), 1)
         self.assertEqual(len({*map(support.text_of, found)}), 1)
 
-    def test_each_command_has_a_program_and_an_entry_point(self) -> None:
+    def test_each_command_has_a_program(self) -> None:
         project = tomllib.loads(support.text_of(os.path.join(support.TOP, 'pyproject.toml')))
-        self.assertEqual(sorted(self.starters()), sorted(COMMANDS))
-        self.assertEqual(project['project']['scripts'], {f'e1gw-{name}': 'e1gw.__main__:launch' for name in COMMANDS})
+        programs = sorted(name for name in os.listdir(BIN) if name != 'e1gw')
+        self.assertEqual(programs, sorted(f'e1gw-{name}' for name in COMMANDS))
+        self.assertEqual(project['tool']['setuptools']['script-files'], [f'bin/{name}' for name in programs])
         folders = {path[len(DRIVER) + 1:].replace('/', '.') for path, _, names in os.walk(os.path.join(DRIVER, 'e1gw'))
                    if '__init__.py' in names}
         self.assertEqual(set(project['tool']['setuptools']['packages']), folders - {'e1gw.testing'})
 
     def test_each_program_runs_its_command(self) -> None:
-        """The help names the command, and is that of python3 -m e1gw."""
-        for name, path in sorted(self.starters().items())[:2]:     # (scripts/lint asks each for its help)
-            with self.subTest(name):
-                status, said, _ = ran(path, '--help')
-                self.assertEqual((status, name in said), (0, True))
-                self.assertEqual(ran(sys.executable, '-m', 'e1gw', name, '--help', env=AROUND), (0, said, ''))
-
-    def test_a_link_of_another_name_to_a_link(self) -> None:
-        os.symlink(os.path.join(DRIVER, 'e1gw-ctl'), self.path('west'))
-        self.assertEqual(ran(self.path('west'), '--help'), ran(os.path.join(DRIVER, 'e1gw-ctl'), '--help'))
+        """Also by a link of another name."""
+        for name in COMMANDS:
+            self.assertIn(f"\nstart('{name}')\n", support.text_of(os.path.join(BIN, f'e1gw-{name}')))
+        os.symlink(os.path.join(BIN, 'e1gw-ctl'), self.path('west'))
+        status, said, _ = ran(self.path('west'), '--help')
+        self.assertEqual((status, 'e1gw-ctl' in said), (0, True))
+        self.assertEqual(ran(sys.executable, '-m', 'e1gw', 'ctl', '--help', env=AROUND), (0, said, ''))
 
     def test_another_name(self) -> None:
-        os.symlink(os.path.join(DRIVER, 'launch'), self.path('e1gw-dance'))
-        for words in ([self.path('e1gw-dance')], [sys.executable, '-m', 'e1gw', 'dance']):
-            status, said, fault = ran(*words, env=AROUND)
-            self.assertEqual((status, said, fault.count('\n'), 'records, tie, trunk, watch' in fault), (2, '', 1, True))
+        status, said, fault = ran(sys.executable, '-m', 'e1gw', 'dance', env=AROUND)
+        self.assertEqual((status, said, fault.count('\n'), 'records, tie, trunk, watch' in fault), (2, '', 1, True))
 
 
 class ProgramBuiltTests(support.FolderCase):
@@ -142,7 +127,7 @@ class PagesTests(unittest.TestCase):
 class CompletionTests(unittest.TestCase):
     def offered(self, line: str, path: str = DEBIAN) -> tuple[list[str], str]:
         """The words that are offered for a line, and standard error."""
-        _, found, said = support.ran('/bin/bash', '-c', ASKS, COMPLETION, DRIVER, line,
+        _, found, said = support.ran('/bin/bash', '-c', ASKS, COMPLETION, BIN, line,
                                      env={'PATH': path})
         return sorted(each.strip() for each in found.splitlines()), said
 

@@ -90,8 +90,9 @@ class Tree(FolderCase):
         self.assertEqual([block.text for block in pasted.blocks_of('dist/man/a.1')], ['a \\\n  b\n', 'c\n'])
 
     def test_options_that_a_command_does_not_have(self) -> None:
-        self.write('tools/greet', '#!/bin/sh\necho "--loud  $1"\n', 0o755)
-        for text, wrong in (('a=b tools/greet --loud | cat --x', []),
-                            ('cat\ntools/greet \\\n --aloud=1 # --x', ['--aloud']),
+        for name in 'bench/greet', 'bin/e1gw-greet':
+            self.write(name, '#!/bin/sh\necho "--loud  $1"\n', 0o755)
+        for text, wrong in (('a=b bench/greet --loud | cat --x', []),
+                            ('cat\nbench/greet \\\n --aloud=1 # --x', ['--aloud']),
                             ('true; e1gw-greet --low', ['--low'])):
             self.assertEqual([line.split()[-1] for line in pasted.wrong_options('A', text, 'e1gw')], wrong)

@@ -1,4 +1,4 @@
-"""What ./e1gw says before it runs the program, here one that copies its input."""
+"""What bin/e1gw says before it runs the program, here one that copies its input."""
 import os
 import shutil
 import subprocess
@@ -11,7 +11,8 @@ WAV = b'RIFF\0\0\0\0WAVEfmt \0\1\2\3'
 class Front(FolderCase):
     def setUp(self) -> None:
         super().setUp()
-        shutil.copy(os.path.join(TOP, 'e1gw'), self.top)
+        os.mkdir(os.path.join(self.top, 'bin'))
+        shutil.copy(os.path.join(TOP, 'bin', 'e1gw'), os.path.join(self.top, 'bin'))
         self.write('scripts/build', '#!/bin/sh\necho "${0%/*}/program"\n', 0o755)
         self.write('scripts/program', '#!/bin/sh\ncat\n', 0o755)
 
@@ -20,7 +21,7 @@ class Front(FolderCase):
         path = os.path.join(self.top, 'in')
         with open(path, 'wb') as file:
             file.write(octets)
-        done = subprocess.run(['bash', '-c', redirected, path, os.path.join(self.top, 'e1gw'), command],
+        done = subprocess.run(['bash', '-c', redirected, path, os.path.join(self.top, 'bin', 'e1gw'), command],
                               capture_output=True, check=True)
         return done.stdout, done.stderr.decode()
 
@@ -42,5 +43,6 @@ class Front(FolderCase):
                 self.assertEqual(came, WAV[8:] if out is None else out)
 
     def test_a_closed_input(self) -> None:
-        done = subprocess.run(['bash', '-c', '"$0" encode <&-', os.path.join(self.top, 'e1gw')], capture_output=True)
+        done = subprocess.run(['bash', '-c', '"$0" encode <&-', os.path.join(self.top, 'bin', 'e1gw')],
+                              capture_output=True)
         self.assertNotIn(b'WAV', done.stderr)

@@ -1,4 +1,4 @@
-"""tools/pcap over captures whose octets are written out here (the format of libpcap, RFC 768, RFC 791, RFC 2974)."""
+"""e1gw-pcap over captures whose octets are written out here (the format of libpcap, RFC 768, RFC 791, RFC 2974)."""
 import json
 import os
 import re
@@ -11,7 +11,7 @@ import unittest
 
 from . import TOP
 
-PCAP = os.path.join(TOP, 'tools', 'pcap')
+PCAP = os.path.join(TOP, 'bin', 'e1gw-pcap')
 HEAD = bytes.fromhex('D4C3B2A1 0200 0400 00000000 00000000 FFFF0000 65000000')
 ANNOUNCED = 9875    # the port of announcements
 DAY = 1_800_000_000

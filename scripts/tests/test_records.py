@@ -1,4 +1,4 @@
-"""tools/records over sessions whose octets are written out here."""
+"""e1gw-records over sessions whose octets are written out here."""
 import os
 import shutil
 import subprocess
@@ -8,7 +8,7 @@ import unittest
 
 from . import FolderCase, TOP
 
-RECORDS = os.path.join(TOP, 'tools', 'records')
+RECORDS = os.path.join(TOP, 'bin', 'e1gw-records')
 IDLE = 0xD5
 FAS, NFAS = 0x9B, 0xDF
 

@@ -1,4 +1,4 @@
-"""The program without proof, as ./e1gw and scripts/build make and use it, on a small tree with a command rt whose try
+"""The program without proof, as bin/e1gw and scripts/build make and use it, on a small tree with a command rt whose try
 runs a script."""
 from __future__ import annotations
 
@@ -59,10 +59,11 @@ class UnprovedCase(FolderCase):
     def setUp(self) -> None:
         super().setUp()
         self.notes, self.tree = f'{self.top}/notes', f'{self.top}/tree'
-        os.makedirs(f'{self.tree}/scripts')
+        for name in ('bin', 'scripts'):
+            os.makedirs(f'{self.tree}/{name}')
         for name in ('build', 'libraries', 'libraries.py', 'kit.py', 'unproved.py'):
             shutil.copy(f'{TOP}/scripts/{name}', f'{self.tree}/scripts/{name}')
-        shutil.copy(f'{TOP}/e1gw', f'{self.tree}/e1gw')
+        shutil.copy(f'{TOP}/bin/e1gw', f'{self.tree}/bin/e1gw')
         self.write('bin/rt', RT, 0o755)
         self.write('tree/crates.txt', 'gateway_main:\n')
         self.write('tree/HANDLES', '')
@@ -87,7 +88,7 @@ class UnprovedCase(FolderCase):
 
     def encoded(self, **given: str) -> str:
         """What is said beside the job, which is done and ends as the program does."""
-        status, out, told = self.ran('e1gw', 'encode', **given)
+        status, out, told = self.ran('bin/e1gw', 'encode', **given)
         self.assertEqual((status, out), (3, 'coded speech\n'), told)
         self.assertTrue(told.endswith('of encode\n'), told)
         return told.removesuffix('of encode\n')
@@ -122,14 +123,14 @@ class Front(UnprovedCase):
     def test_a_proved_program_is_used(self) -> None:
         self.assertEqual(self.ran('scripts/build')[0], 0)
         for words in ('encode',), ('serve',), ('--help',):
-            self.assertEqual(self.ran('e1gw', *words), (0, 'proved\n', ''))
+            self.assertEqual(self.ran('bin/e1gw', *words), (0, 'proved\n', ''))
         self.assertEqual(self.ran('scripts/build', '--built'), (0, f'{self.tree}/out/e1gw\n', ''))
         self.assertEqual(self.tries(), 0)
 
     def test_what_carries_calls(self) -> None:
         """It does, too, and says each time what it is. What is asked for the proved one gets none."""
         self.encoded()
-        self.assertEqual(self.ran('e1gw', 'serve', '--help'), (0, 'not proved: serve --help\n', UNPROVED))
+        self.assertEqual(self.ran('bin/e1gw', 'serve', '--help'), (0, 'not proved: serve --help\n', UNPROVED))
         status, out, told = self.ran('scripts/build', '--built')
         self.assertEqual((status, out), (70, ''))
         self.assertRegex(told, 'there is no proved program yet: scripts/build proves it, in 20 to 30 minutes')
@@ -149,22 +150,22 @@ class Front(UnprovedCase):
     def test_a_broken_source(self) -> None:
         self.encoded()
         self.source('broken')
-        status, out, told = self.ran('e1gw', 'encode')
+        status, out, told = self.ran('bin/e1gw', 'encode')
         self.assertEqual((status, out), (70, ''))
         self.assertIn('error[names]: broken is no word\n --> src/main.rt:1:1\n', told)
         self.assertNotIn('of encode', told)
         self.assertEqual(self.kept(), [])
 
     def test_where_it_cannot_be_kept(self) -> None:
-        status, out, told = self.ran('e1gw', 'encode', HIDDEN='yes')
+        status, out, told = self.ran('bin/e1gw', 'encode', HIDDEN='yes')
         self.assertEqual((status, out, self.kept()), (70, '', []))
         self.assertIn('rt try does not let its program be kept', told)
 
     def test_a_second_one_waits(self) -> None:
         held = f'{self.top}/held'
-        first = self.begin('e1gw', 'encode', HELD=held)
+        first = self.begin('bin/e1gw', 'encode', HELD=held)
         self.until_tried(first)
-        second = self.begin('e1gw', 'encode', HELD=held)
+        second = self.begin('bin/e1gw', 'encode', HELD=held)
         assert second.stderr
         self.assertIn('waiting for another build', second.stderr.readline())
         self.write('held', '')
@@ -175,7 +176,7 @@ class Front(UnprovedCase):
     def test_a_signal_leaves_nothing(self) -> None:
         for number in (signal.SIGINT, signal.SIGTERM, signal.SIGHUP):
             self.write('notes', '')
-            process = self.begin('e1gw', 'encode', HELD=f'{self.top}/never')
+            process = self.begin('bin/e1gw', 'encode', HELD=f'{self.top}/never')
             self.until_tried(process)
             os.killpg(process.pid, number)
             process.communicate(timeout=60)

@@ -103,7 +103,7 @@ class Reloads:
         if told:
             say(Severity.WARNING, f'reload: {told}')
         if not version.its.is_proved:
-            say(Severity.WARNING, f'e1gw {version.its.name}: it carries calls for a trial, and takes more of a processor')
+            say(Severity.WARNING, f'e1gw {version.its.name}: it is for trials, and takes more of a processor')
         holder.versions.follows(version)
         if holder.program and holder.is_active:
             holder.requests.append(request)

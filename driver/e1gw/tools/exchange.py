@@ -1,6 +1,6 @@
 """An exchange at a Unix socket, in the place of a card and a trunk, to try e1gw-trunk with. Needs python3 alone.
 
-  examples/exchange [--again] PATH        (in the package e1gw-exchange)
+  e1gw-exchange [--again] PATH
 
 It waits for one who connects, and then sends and receives a trunk of 2048 kbit/s in real time. A circuit that is
 seized it acknowledges after 20 ms and answers after a second; what it hears on a circuit it sends back on it. Typed

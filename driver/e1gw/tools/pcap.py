@@ -1,7 +1,7 @@
 """Turns the D records of a session into a capture of UDP packets, for Wireshark and tshark, and back. Needs python3.
 
-  tools/pcap [--circuit N] [--config FILE] [--begin TIME] [--in SESSION] [SESSION] > call.pcap
-  tools/pcap --back [--circuit N] [CAPTURE] > datagrams.rec
+  e1gw-pcap [--circuit N] [--config FILE] [--begin TIME] [--in SESSION] [SESSION] > call.pcap
+  e1gw-pcap --back [--circuit N] [CAPTURE] > datagrams.rec
 
 SESSION is the gateway's output, by default standard input; its datagrams go from 192.0.2.1 to 192.0.2.2. --in adds the
 datagrams of the gateway's input in the other direction: a file, or a folder of e1gw-watch --keep. Circuit N has UDP

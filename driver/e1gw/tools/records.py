@@ -1,11 +1,11 @@
 """Reads and makes the records of a session: e1gw-session(5). Needs python3 alone.
 
-  tools/records [SESSION]                            prints its records, one a line
-  tools/records --from-raw [--size N] [OCTETS]       makes T records of N octets (256, 1 ms) of a trunk's octets;
+  e1gw-records [SESSION]                            prints its records, one a line
+  e1gw-records --from-raw [--size N] [OCTETS]       makes T records of N octets (256, 1 ms) of a trunk's octets;
                                                      --reverse reverses the bits of each
-  tools/records --to-raw [SESSION]                   the octets of its T records
-  tools/records --until MS | --from MS [SESSION]     its records before, or from, this time of the trunk
-  tools/records --circuit N [--law mu] [SESSION]     the circuit's time slot of the T records as a WAV file;
+  e1gw-records --to-raw [SESSION]                   the octets of its T records
+  e1gw-records --until MS | --from MS [SESSION]     its records before, or from, this time of the trunk
+  e1gw-records --circuit N [--law mu] [SESSION]     the circuit's time slot of the T records as a WAV file;
                                                      with --from-raw of a trunk's octets
 
 SESSION and OCTETS are files, by default standard input. A line shows for T the places of its octets on the trunk, for D
