@@ -25,7 +25,7 @@ from e1gw.picture.replay import Replay
 from e1gw.session import (OCTETS_A_SECOND, Command, Kind, Packet, command_record, datagram_record, records_in,
                           trunk_record)
 
-COMMAND = os.path.join(TOP, 'driver', 'e1gw-picture')
+COMMAND = os.path.join(TOP, 'bin', 'e1gw-picture')
 PROGRESS = re.compile('.* of the trunk read.*; it goes on\n')    # (on a slow machine)
 SECOND = OCTETS_A_SECOND
 TONE = TONES['A']

@@ -23,7 +23,7 @@ from e1gw.session_clock import Break, FileNote, SessionClock, breaks_of
 from e1gw.tools.call import CallCut, CircuitSide, EndedCall, begin_of
 from e1gw.tools.pcap import Announcements, Timed, checksum, configured_ends, packet, packets_of, write_capture
 
-COMMAND = os.path.join(support.TOP, 'tools', 'call')
+COMMAND = os.path.join(support.TOP, 'bin', 'e1gw-call')
 FRAME = 32
 SIGNALS = [('00', '10', 'seized'), ('00', '11', 'acked'), ('00', '01', 'answered'), ('10', '01', 'releasing'),
            ('10', '10', 'idle')]       # ITU-T Q.421: a and b, forward and backward

@@ -23,11 +23,16 @@ from e1gw.exchange import ACKNOWLEDGED, IDLE, SEIZED
 from e1gw.testing.datagrams import PACKET, packets, speech
 from e1gw.testing.ports import free_ports
 
-EXCHANGE = [sys.executable, '-B', os.path.join(support.TOP, 'examples', 'exchange')]
+EXCHANGE = [sys.executable, '-B', os.path.join(support.TOP, 'bin', 'e1gw-exchange')]
 FRONT_END = os.path.join(support.TOP, 'examples', 'sip', 'front_end')
 WAYS = ['<sip:192.0.2.1;lr>', '<sip:192.0.2.2:5070;lr>, <sip:192.0.2.3;lr>']       # of proxies, the last one first
 OFFER = ('v=0\r\no=- 1 1 IN IP4 127.0.0.1\r\ns=-\r\nc=IN IP4 127.0.0.1\r\nt=0 0\r\n'
          'm=audio {port} RTP/AVP {payload} 101\r\n')
+
+
+def is_listened_at(path: str) -> bool:
+    with socket.socket(socket.AF_UNIX) as line:
+        return line.connect_ex(path) == 0
 
 
 class TypedCommandTests(support.FolderCase):
@@ -51,10 +56,17 @@ class TypedCommandTests(support.FolderCase):
             self.assertEqual(pairs(line), idle)
 
     def test_a_socket_that_is_there(self) -> None:
-        """What is in the way is named, with what takes it away."""
-        path = self.write('card', '')
-        self.assertEqual(support.ran(*EXCHANGE, path), (1, '', f'exchange: {path}: Address already in use: another '
-                                                       f'exchange waits there, or one left it (rm {path})\n'))
+        """A file stays, and one that is listened at. One that a killed exchange has left is replaced."""
+        file, path = self.write('file', ''), self.path('card')
+        with support.listening(path):
+            for each in file, path:
+                self.assertEqual(support.ran(*EXCHANGE, each),
+                                 (1, '', f'e1gw-exchange: {each}: Address already in use\n'))
+        exchange = Popen([*EXCHANGE, path])
+        self.addCleanup(exchange.wait)
+        self.addCleanup(exchange.kill)
+        support.until(lambda: is_listened_at(path))
+        self.assertEqual(exchange.wait(SECONDS), 0)
 
     def until_seized(self, line: socket.socket, circuits: set[int]) -> None:
         support.until(lambda: {n for n, pair in pairs(line).items() if pair == SEIZED} == circuits, 0.0)

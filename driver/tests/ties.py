@@ -18,7 +18,7 @@ from e1gw.tie.coding import Coding
 
 IDLE, SEIZED, ANSWER, HELD = 0b10, 0b00, 0b01, 0b11         # bits a and b
 G726, PCMA = Coding('g726-16', 96), Coding('pcma', 8)
-TIE = os.path.join(support.TOP, 'driver', 'e1gw-tie')
+TIE = os.path.join(support.TOP, 'bin', 'e1gw-tie')
 QUIET = 0.001               # seconds without an event, after which the clock goes on
 STEP = 0.01                 # seconds by which it goes on then, or in one turn
 

@@ -8,10 +8,12 @@ lines: seize N and clear N, for circuits on which the exchange calls. It prints 
 bits a and b, and ends when the other end does; with --again it then waits for the next one, all circuits idle.
 """
 import argparse
+import errno
 import os
 import select
 import signal
 import socket
+import stat
 import sys
 import time
 
@@ -90,14 +92,23 @@ def receive(line: socket.socket, exchange: Exchange) -> bool:
     return True
 
 
+def is_left_over(path: str) -> bool:
+    """Whether there is a socket that nobody listens at: an exchange that was killed has left it."""
+    if not (os.path.exists(path) and stat.S_ISSOCK(os.stat(path).st_mode)):
+        return False
+    with socket.socket(socket.AF_UNIX) as line:
+        return line.connect_ex(path) == errno.ECONNREFUSED
+
+
 def awaited(path: str) -> socket.socket:
-    """Waits for one who connects to a socket at this path, which is removed then."""
+    """Waits for one who connects to a socket at this path, which is removed then. One that is left over is replaced."""
     with socket.socket(socket.AF_UNIX) as listener:
         try:
+            if is_left_over(path):
+                os.unlink(path)
             listener.bind(path)
         except OSError as fault:
-            rest = f': another exchange waits there, or one left it (rm {path})' if os.path.exists(path) else ''
-            sys.exit(f'{os.path.basename(sys.argv[0])}: {path}: {fault.strerror}{rest}')
+            sys.exit(f'e1gw-exchange: {path}: {fault.strerror}')
         listener.listen(1)
         line = listener.accept()[0]
     os.unlink(path)
