@@ -4,15 +4,15 @@ PATH is the socket of --control of e1gw-watch, or the name of a trunk, whose soc
 COMMAND is one of e1gw-watch(1): seize N, clear N, answer N, clear-back N, codec N CODEC TYPE, status, status N, status
 json, events, role, promote, demote, move, reload, quit, help. N may be several circuits: seize 1-4,7.
 
-block N takes circuits out of service once their calls have ended, or --now; unblock N takes that back. drain does it
-for all, and waits until no call is left, or for --within MINUTES. calls lists those of the file of --calls that --last,
---circuit and --since select, and those that go on, each with the id that e1gw-call takes. outages lists those between
---since and --until, by the file of --json. move NODE, as root, has Pacemaker move the trunk. With a PATH and no
-command, commands are read from standard input, a line each. --all gives the command to each trunk of this machine.
-Without any word there is a line for each trunk of this machine.
+block N takes circuits out of service once their calls have ended, or --now; unblock N takes that back. wait N STATE
+prints which circuits are not in this state until all are, or for --for SECONDS. calls lists those of the file of
+--calls that --last, --circuit and --since select, and those that go on, each with the id that e1gw-call takes. outages
+lists those between --since and --until, by the file of --json. move NODE, as root, has Pacemaker move the trunk. With a
+PATH and no command, commands are read from standard input, a line each. --all gives the command to each trunk of this
+machine. Without any word there is a line for each trunk of this machine.
 
 Statuses: 0 all was done; 1 a trunk refused something, or does not answer; 2 the command line, or nobody listens at
-PATH; 3 calls are left.
+PATH; 3 circuits are not in the state.
 """
 from __future__ import annotations
 
@@ -26,18 +26,18 @@ from typing import BinaryIO
 
 from .ctl_all import PATIENCE, SOCKETS, answer_to, connected, overview, trunks_here
 from .ctl_calls import OutageForm, Wanted, calls_listed, outages_listed
-from .ctl_drain import drain
+from .ctl_wait import STATES, AwaitedState, wait
 from .faults import checked, number, words_of_fault
-from .session import CIRCUITS
+from .session import CIRCUITS, circuit_of
 from .session_clock import second_of
 
 ASKING = ('status', 'events', 'help', 'metrics', 'role')
 SEVERAL = ('seize', 'clear', 'answer', 'clear-back', 'block', 'unblock', 'codec')
-TAKEN = {'block': 'drain', 'unblock': 'undrain'}        # what an operator blocks is kept (e1gw-watch(1))
+AT_ONCE = ('block', 'unblock')          # .. of which the trunk takes several at once
 
 # The commands that have these options.
 OPTIONS = {'last': ('calls',), 'circuit': ('calls',), 'since': ('calls', 'outages'), 'until': ('outages',),
-           'csv': ('outages',), 'page': ('outages',), 'now': ('block', 'drain'), 'within': ('drain',)}
+           'csv': ('outages',), 'page': ('outages',), 'now': ('block',), 'for': ('wait',)}
 
 
 def path_of(word: str) -> str:
@@ -70,15 +70,13 @@ def each_circuit(command: str) -> list[str]:
     words = command.split()
     if len(words) < 2 or words[0] not in SEVERAL:
         return [command]
-    if words[0] in TAKEN:
-        return [' '.join([TAKEN[words[0]], part, *words[2:]]) for part in words[1].split(',')]
-    return [' '.join([words[0], circuit, *words[2:]]) for circuit in circuits_of(words[1])]
+    each = words[1].split(',') if words[0] in AT_ONCE and 'auto' not in words else circuits_of(words[1])
+    return [' '.join([words[0], circuit, *words[2:]]) for circuit in each]
 
 
-def ask(stream: BinaryIO, line: socket.socket, command: str, typed: str, patience: float, front: str = '') -> bool:
-    """Gives a command and prints what answers it, by the word that was typed; returns whether it was done."""
+def ask(stream: BinaryIO, line: socket.socket, command: str, patience: float, front: str = '') -> bool:
+    """Gives a command and prints what answers it; returns whether it was done."""
     lines, word = answer_to(line, stream, command, patience), command.split()[0]
-    lines = [typed + each.removeprefix(word) if each.startswith(f'{word} ') else each for each in lines]
     print('\n'.join(f'{front}{each}' for each in lines), flush=True)
     if word in ASKING and not lines[0].endswith(('help', 'to 30')):
         return True
@@ -101,8 +99,7 @@ def run(path: str, words: list[str], patience: float) -> int:
             follow(stream)
             return 0
         commands = [' '.join(words)] if words else (each.strip() for each in sys.stdin)
-        done = [ask(stream, line, each, command.split()[0], patience)
-                for command in commands if command for each in each_circuit(command)]
+        done = [ask(stream, line, each, patience) for command in commands if command for each in each_circuit(command)]
     return 0 if all(done) else 1
 
 
@@ -113,8 +110,7 @@ def run_all(words: list[str], patience: float) -> int:
         try:
             with connected(path, patience) as line:
                 stream: BinaryIO = line.makefile('rb')
-                done = [ask(stream, line, each, command.split()[0], patience, f'{name}: ')
-                        for each in each_circuit(command)]
+                done = [ask(stream, line, each, patience, f'{name}: ') for each in each_circuit(command)]
                 status |= not all(done)
         except (OSError, EOFError) as fault:
             print(f'{name}: it does not answer: {words_of_fault(fault, path)}', flush=True)
@@ -146,8 +142,11 @@ def started(asked: argparse.Namespace, parser: argparse.ArgumentParser, patience
         case ['outages']:
             form = OutageForm.PAGE if asked.page else OutageForm.CSV if asked.csv else OutageForm.TEXT
             return outages_listed(trunks, asked.since, asked.until, form, patience)
-        case ['drain']:
-            return drain(trunks, asked.within, bool(asked.now), patience)
+        case ['wait', *its]:
+            circuits, state = {*map(circuit_of, circuits_of(its[0] if its else ''))}, ' '.join(its[1:])
+            if 0 in circuits or state not in STATES:
+                parser.error(f'wait: wants circuits, 1 to 30, and a state: {", ".join(STATES)}')
+            return wait(trunks, AwaitedState(circuits, state), getattr(asked, 'for'), patience)
         case ['move', node] if not asked.all:
             return move(asked.path, node)
     command += ['now'] * bool(asked.now)
@@ -165,14 +164,16 @@ def next_words(parsed_args: argparse.Namespace, **_: object) -> list[str]:
         return [name for name, _ in trunks_here()]
     match words[not parsed_args.all:]:
         case []:
-            return [*SEVERAL, 'drain', 'status', 'calls', 'outages', 'events', 'role', 'promote', 'demote',
+            return [*SEVERAL, 'wait', 'status', 'calls', 'outages', 'events', 'role', 'promote', 'demote',
                     'move', 'reload', 'quit', 'help']
         case ['status']:
             return ['json', *circuits]
         case ['reload']:
             return ['force']
-        case [word] if word in SEVERAL:
+        case [word] if word in (*SEVERAL, 'wait'):
             return circuits
+        case ['wait', _]:
+            return STATES
         case ['codec', _]:
             return ['pcma', 'pcmu', 'g726-16', 'g726-24', 'g726-32', 'g726-40']
     return []
@@ -185,9 +186,8 @@ def main(patience: float = PATIENCE) -> None:
     parser.add_argument('--last', metavar='N', type=number(1, 10**6), help='calls: the last N [default: 20, or all '
                         'with --since]')
     parser.add_argument('--circuit', metavar='N', type=number(1, 30), help='calls: those of a circuit')
-    parser.add_argument('--now', action='store_true', default=None, help='block, drain: calls are cleared')
-    parser.add_argument('--within', metavar='MINUTES', type=number(0, 10_000, float), help='drain: waits no longer '
-                        'for the end of calls')
+    parser.add_argument('--now', action='store_true', default=None, help='block: calls are cleared')
+    parser.add_argument('--for', metavar='SECONDS', type=number(0, 10**6, float), help='wait: no longer than that')
     time = checked(second_of, 'a time such as 2026-11-23T07:30:00Z')
     parser.add_argument('--since', metavar='TIME', type=time, help='calls, outages: those that ended after TIME (UTC)')
     parser.add_argument('--until', metavar='TIME', type=time, help='outages: those that began before TIME')

@@ -11,7 +11,7 @@ from typing import Any, BinaryIO, Callable, Iterable, Iterator, Mapping, NamedTu
 
 from .events import REMOTE
 from .faults import words_of_fault
-from .metrics import drain_words, state_of
+from .metrics import block_words, state_of
 
 SOCKETS, UNITS = '/run/e1gw', '/etc/e1gw'
 PATIENCE = 5.0              # seconds that a trunk has to answer
@@ -118,7 +118,7 @@ class TrunkLine(NamedTuple):
         alarms = f'; the other end: {", ".join(REMOTE[what] for what in far)}' if far and status['trunk_up'] else ''
         ended = [what for what, why in status['ended'].items() if why is not None]
         told = (f'; ended: {", ".join(ended)}' if ended else '') + ('; not fed' if status.get('fed') is False else '')
-        told += f'; {drains}' if (drains := drain_words(rows)) else ''
+        told += f'; {blocks}' if (blocks := block_words(rows)) else ''
         late = sum(row['datagrams'].get('Late', 0) for row in rows)
         return cls(name, status['version'], since, str(sum(row['state'] == 'answered' for row in rows)),
                    str(sum(row['lost'] for row in rows)), str(late), f'{state_of(status)}{alarms}{told}')

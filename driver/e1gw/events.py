@@ -177,28 +177,28 @@ class CallsCleared(CircuitsChanged):
     name, text = 'cleared', 'calls cleared, {0.why}: circuits {0.numbers}'
 
 
-class DrainNews(StrEnum):
+class BlockNews(StrEnum):
     """What becomes of circuits that the operator blocks."""
 
-    DRAINS = 'drains'       # they are in calls, which are waited for
+    BLOCKING = 'blocking'   # they are in calls, which are waited for
     SEIZED = 'seized'       # the same: the exchange has seized them before it saw the block
-    DRAINED = 'drained'     # they take no call
-    OVER = 'over'           # they are in service again
+    BLOCKED = 'blocked'     # they take no call
+    UNBLOCKED = 'unblocked'     # they are in service again
 
 
-_DRAIN = {DrainNews.DRAINS: 'blocked once their calls have ended', DrainNews.DRAINED: 'blocked by the operator',
-          DrainNews.SEIZED: 'seized before they were blocked, and blocked once these calls have ended',
-          DrainNews.OVER: 'no longer blocked by the operator'}
+_BLOCK = {BlockNews.BLOCKING: 'blocking, until their calls have ended', BlockNews.BLOCKED: 'blocked by the operator',
+          BlockNews.SEIZED: 'seized before the block: blocking, until these calls have ended',
+          BlockNews.UNBLOCKED: 'unblocked by the operator'}
 
 
 @dataclass(frozen=True)
-class CircuitsDrained(Event):
-    name, usual = 'drain', Level.NOTICE
-    what: DrainNews
+class CircuitsBlocked(Event):
+    name, usual = 'block', Level.NOTICE
+    what: BlockNews
     circuits: tuple[int, ...]
 
     def words(self) -> str:
-        return f'{_DRAIN[self.what]}: circuits {circuit_words(self.circuits)}'
+        return f'{_BLOCK[self.what]}: circuits {circuit_words(self.circuits)}'
 
 
 # ---- the flow of octets ----

@@ -13,7 +13,7 @@ Labels = Mapping[str, object]
 Samples = Iterable[tuple[Labels, float | int]] | float | int
 
 ALIGNED, NOT_OPEN = 'aligned', 'not open'
-DRAIN_WORDS = {'drained': 'blocked by the operator', 'drains': 'blocked once their calls have ended'}
+BLOCK_WORDS = {'blocked': 'blocked by the operator', 'blocking': 'blocking, until their calls have ended'}
 TRANSPORT = 'e1gw_transport'        # of what a transport tells, its own names and kinds
 # A number of each circuit's row: its name, what it is, its key, and how many of its units are one.
 CIRCUIT_NUMBERS = (
@@ -114,8 +114,8 @@ def _of_circuits(status: Status) -> list[Family]:
         ('e1gw_circuit_state', 'The state of each line: 1 for the one that it is in.',
          [({**labels, 'role': row['role'], 'state': state}, state == row['state']) for labels, row in rows
           for state in State]),
-        ('e1gw_circuit_drain', '1 where the operator has blocked the circuit, once its call has ended.',
-         [(labels, row['drain'] is not None) for labels, row in rows]),
+        ('e1gw_circuit_blocked', '1 if the operator has blocked the circuit, also while its call lasts.',
+         [(labels, row['blocked'] is not None) for labels, row in rows]),
         *((name, about, [(labels, row[key] if unit == 1 else round(row[key] / unit, 6)) for labels, row in rows])
           for name, about, key, unit in CIRCUIT_NUMBERS),
         ('e1gw_rtp_packets_total', 'RTP packets sent, and received and not discarded.',
@@ -171,17 +171,25 @@ def head_of(status: Status) -> list[str]:
         'alignment lost: ' + ', '.join(f'{what} {n}' for what, n in status['losses'].items())
         + f'; stalls {clock["stalls"]}{_slips(clock)}']
     lines += _pair_line(status) + _card_line(status) + _crc4_line(status)
-    lines += filter(None, [drain_words(status['circuits'])])
+    lines += filter(None, [block_words(status['circuits'])])
     lines += [f'ended: {what}: {why}' for what, why in status['ended'].items() if why is not None]
     if status['stale']:
         lines.append('the counts of packets are not those of now')
     return lines
 
 
-def drain_words(rows: Iterable[Status]) -> str:
+def states_of(row: Status) -> tuple[str, ...]:
+    """The state of a circuit; of one that the operator blocks `blocking` or `blocked`, behind a state that is more."""
+    state, blocked = row['state'], row.get('blocked')
+    if not blocked:
+        return (state,)
+    return (blocked,) if state in (State.IDLE, State.BLOCKED) else (state, blocked)
+
+
+def block_words(rows: Iterable[Status]) -> str:
     """Which of these circuits the operator has blocked; nothing without any."""
-    its = {what: [row['circuit'] for row in rows if row.get('drain') == what] for what in DRAIN_WORDS}
-    return '; '.join(f'{DRAIN_WORDS[what]}: {circuit_words(circuits)}' for what, circuits in its.items() if circuits)
+    its = {what: [row['circuit'] for row in rows if row.get('blocked') == what] for what in BLOCK_WORDS}
+    return '; '.join(f'{BLOCK_WORDS[what]}: {circuit_words(circuits)}' for what, circuits in its.items() if circuits)
 
 
 def _slips(clock: Status) -> str:
@@ -225,7 +233,7 @@ def _crc4_line(status: Status) -> list[str]:
 
 
 def _row(status: Status, row: Mapping[str, Any]) -> str:
-    counts, state = dict(row['datagrams']), NOT_OPEN if status.get('fault') else row['state']
+    counts, state = dict(row['datagrams']), NOT_OPEN if status.get('fault') else states_of(row)[-1]
     sent, received = counts.pop('sent'), counts.pop('admitted')
     discarded = ', '.join(f'{n} {why}' for why, n in counts.items())
     return (f'{row["circuit"]:2} {row["role"]:8} {state:11} {row["sent"]:4} {row["recognised"]:3} '
@@ -247,6 +255,6 @@ def table(status: Status) -> str:
 def circuit_table(status: Status, circuit: int) -> str:
     """The row of one circuit, below its head."""
     rows = [_row(status, row) for row in status['circuits'] if row['circuit'] == circuit]
-    told = drain_words([row for row in status['circuits'] if row['circuit'] == circuit])
+    told = block_words([row for row in status['circuits'] if row['circuit'] == circuit])
     return '\n'.join([COLUMNS, *(rows or [f'{circuit:2} has no table in the configuration, and no call yet']),
                       *filter(None, [told])])

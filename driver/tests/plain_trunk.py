@@ -5,7 +5,7 @@ from contextlib import AbstractContextManager, nullcontext
 from types import SimpleNamespace
 from typing import Any, cast
 
-from e1gw.watcher.drains import KeptDrains
+from e1gw.watcher.blocks import KeptBlocks
 from e1gw.watcher.reader import LogReader
 from e1gw.watcher.replay import ReplayVersion
 from e1gw.watcher.trunk import WatchedPlaces, WatchedTrunk
@@ -25,8 +25,8 @@ class PlainTrunk(WatchedTrunk):
     def places(self) -> WatchedPlaces:
         return cast(WatchedPlaces, self._places)
 
-    def drains(self) -> KeptDrains:
-        return KeptDrains('')
+    def blocks(self) -> KeptBlocks:
+        return KeptBlocks('')
 
     def stands_by(self) -> bool:
         return False

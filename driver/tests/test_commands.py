@@ -100,13 +100,13 @@ class PagesTests(unittest.TestCase):
             self.assertLessEqual(named, options)
 
     def test_commands(self) -> None:
-        commands = {*control.COMMANDS, 'drain', 'undrain', 'codec', 'status', 'events', 'on-loss', 'role', 'promote',
-                    'demote', 'move', 'reload', 'quit', 'help'}
+        commands = {*control.COMMANDS, 'codec', 'status', 'events', 'on-loss', 'role', 'promote', 'demote', 'move',
+                    'reload', 'quit', 'help'}
         text = page('e1gw-watch.1').split('.Sh COMMANDS')[1].split('.Sh FILES')[0]
         named = {word for line in re.findall(r'^\.It Ic .*', text, re.M) for word in re.findall(r'Ic ([\w-]+)', line)}
         self.assertEqual(named, commands)
-        own = {'calls', 'outages'}                          # (of e1gw-ctl itself)
-        self.assertEqual({*offered('trunk1')}, commands - {'undrain', 'on-loss'} | own)
+        own = {'calls', 'outages', 'wait'}                  # (of e1gw-ctl itself)
+        self.assertEqual({*offered('trunk1')}, commands - {'on-loss'} | own)
         self.assertEqual({word for word in commands if word in (control.__doc__ or '')}, commands - {'on-loss'})
 
     def test_words_of_parts_that_are_gone(self) -> None:

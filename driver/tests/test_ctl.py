@@ -27,7 +27,8 @@ class CtlWordTests(unittest.TestCase):
         for command, each in (('seize 1-3,7', ['seize 1', 'seize 2', 'seize 3', 'seize 7']),
                               ('codec 4-5 pcma 8', ['codec 4 pcma 8', 'codec 5 pcma 8']), ('seize 3', ['seize 3']),
                               ('seize x-3', ['seize x-3']), ('seize 1-999999', ['seize 1-999999']),
-                              ('block 1-3,7 now', ['drain 1-3 now', 'drain 7 now']), ('unblock 3', ['undrain 3']),
+                              ('block 1-3,7 now', ['block 1-3 now', 'block 7 now']), ('unblock 3', ['unblock 3']),
+                              ('block 1-2 auto', ['block 1 auto', 'block 2 auto']),
                               ('seize', ['seize']), ('status', ['status']), ('on-loss clear 3', ['on-loss clear 3'])):
             self.assertEqual(ctl.each_circuit(command), each)
 
@@ -101,7 +102,7 @@ class CtlAnswerTests(support.FolderCase):
         trunk = StandInTrunk(self.path(f'run/{name}/control'), {
             'seize 1': 'seize 1: done\n\n', 'seize 2': 'seize 2: not idle\n\n', 'status': f'trunk {name}\nrows\n\n',
             'status 40': 'status 40: circuits are 1 to 30\n\n', 'status x': 'x: help\n\n',
-            'reload': 'a\nreload: done\n\n', 'reload force': 'reload: d', 'undrain 3': 'undrain 3: done\n\n',
+            'reload': 'a\nreload: done\n\n', 'reload force': 'reload: d', 'unblock 3': 'unblock 3: done\n\n',
             'events': 'events: done\n\n{"event": 1}\n{"event": 2}\n'})
         self.addCleanup(trunk.listener.close)
         return trunk
@@ -116,7 +117,7 @@ class CtlAnswerTests(support.FolderCase):
 
     def test_one_trunk(self) -> None:
         """0 where all was done, 1 where something was refused or not answered; questions are done once answered. Half
-        an answer is one. What answers `unblock` names it, not the command that it is made into; and vice versa."""
+        an answer is one."""
         for words, status, told in (
                 ('seize 1', 0, ['seize 1: done']), ('seize 2', 1, ['seize 2: not idle']),
                 ('seize 1-2', 1, ['seize 1: done', 'seize 2: not idle']), ('status', 0, ['trunk west', 'rows']),
@@ -128,8 +129,6 @@ class CtlAnswerTests(support.FolderCase):
                 self.assertEqual(self.ctl(self.path('run/west/control'), *words.split())[:2], (status, told))
         self.assertEqual(self.ctl('west', given='seize 1\n\n  seize 2 \nstatus\n'),
                          (1, ['seize 1: done', 'seize 2: not idle', 'trunk west', 'rows'], ''))
-        self.assertEqual(self.ctl('west', given='undrain 3\nunblock 3\n'),
-                         (0, ['undrain 3: done', 'unblock 3: done'], ''))
         self.assertEqual(self.ctl('west', 'none'), (1, [], 'e1gw-ctl: the trunk has ended\n'))
 
     def test_a_trunk_that_is_not_in_service(self) -> None:
@@ -208,44 +207,42 @@ class CtlAnswerTests(support.FolderCase):
         self.assertEqual((status, told[1]), (1, 'east: it writes no --calls: there are no calls that have ended'))
         self.assertEqual(len(told), 4)
 
-    def drains(self, name: str, *looks: tuple[int, ...]) -> None:
-        """A trunk drains, and at each look has calls in these circuits."""
-        its, rows = self.trunks[name].answers, iter(looks)
+    def looks(self, name: str, *looks: dict[int, str]) -> None:
+        """At each look a trunk has circuits in these states; 9 is idle, and blocked by the operator."""
+        rows = iter(looks)
 
         def looked(_: float) -> None:
-            its['status json'] = json.dumps({'circuits': [
-                {'circuit': n, 'state': 'answered' if n < 8 else 'acked', 'drain': 'drains'} for n in next(rows)]
-                + [{'circuit': 9, 'state': 'idle', 'drain': 'drained'}]}) + '\n\n'
-        its |= {f'drain 1-30{now}': f'told\ndrain 1-30{now}: done\n\n' for now in ('', ' now')}
+            self.trunks[name].answers['status json'] = json.dumps({'circuits': [
+                {'circuit': n, 'state': state, 'blocked': 'blocking'} for n, state in next(rows).items()]
+                + [{'circuit': 9, 'state': 'idle', 'blocked': 'blocked'}]}) + '\n\n'
         looked(0)
-        self.enterContext(mock.patch('e1gw.ctl_drain.time.sleep', looked))
+        self.enterContext(mock.patch('e1gw.ctl_wait.time.sleep', looked))
 
-    def drained(self, *words: str) -> tuple[int | str | None, list[str]]:
+    def waited(self, *words: str) -> tuple[int | str | None, list[str]]:
         status, told, _ = self.ctl(*words)
         return status, [re.sub(r'^\d\d:\d\d:\d\d ', '', line) for line in told]
 
-    def test_drain(self) -> None:
-        """A line whenever calls have ended, up to the last one, or the end of the time; the circuits stay blocked."""
-        last = 'west: its circuits stay blocked: e1gw-ctl west unblock 1-30 takes that back'
-        self.drains('west', (6, 7, 8), (6, 7, 8), (7,), ())
-        self.assertEqual(self.drained('west', 'drain', '--now'), (
-            0, ['west: 6-7 answered, 8 acked', 'west: 7 answered', 'west: no call is left', last]))
-        self.assertEqual(self.trunks['west'].asked[0], 'drain 1-30 now')
-        self.drains('west', (6,))
-        self.assertEqual(self.drained('west', 'drain', '--within', '0'), (
-            3, ['west: 6 answered', 'calls are left after 0 minutes', last]))
-        with mock.patch('e1gw.ctl_drain.time.sleep', side_effect=KeyboardInterrupt):
-            self.assertEqual(self.drained('west', 'drain'), (3, ['west: 6 answered', 'calls are left', last]))
-        self.drains('west', (6,), ())
-        self.trunks['east'].answers = {'drain 1-30': 'drain 1-30: done\n\n', 'status json': '{"circuits": []}\n\n'}
-        self.assertEqual(self.drained('--all', 'drain')[1][:3], [
-            'east: no call is left', 'west: 6 answered', 'west: no call is left'])
-        self.drains('west', ())
-        self.trunks['east'].answers = {'drain 1-30': 'drain 1-30: the other machine is to carry the trunk\n\n'}
-        self.assertEqual(self.drained('--all', 'drain'), (
-            1, ['east: drain 1-30: the other machine is to carry the trunk', 'west: no call is left', last]))
-        for words in ('status', 'drain 7'), ('unblock', '7'):
-            self.assertEqual(self.ctl('west', *words, '--within', '3')[0], 2)
+    def test_wait(self) -> None:
+        """A line whenever states have changed, until all circuits are in the state, or the end of the time. An outgoing
+        one that is blocked is not idle, though its line is; a trunk that does not answer, or is not open, is waited
+        for."""
+        both = {6: 'answered', 7: 'answered', 8: 'acked'}
+        self.looks('west', both, both, {7: 'answered'}, {})
+        self.assertEqual(self.waited('west', 'wait', '1-30', 'blocked'), (
+            0, ['west: 6-7 answered, 8 acked', 'west: 7 answered', 'west: 9 blocked']))
+        self.looks('west', both)
+        self.assertEqual(self.waited('west', 'wait', '6,8', 'acked', '--for', '0'), (
+            3, ['west: 6 answered', 'not all are acked after 0 s']))
+        self.assertEqual(self.waited('west', 'wait', '6-8', 'blocking'), (0, ['west: 6-8 blocking']))
+        self.assertEqual(self.waited('west', 'wait', '9', 'idle', '--for', '0')[0], 3)
+        with mock.patch('e1gw.ctl_wait.time.sleep', side_effect=KeyboardInterrupt):
+            self.assertEqual(self.waited('west', 'wait', '1', 'idle'), (3, ['west: it has no such circuit']))
+        self.looks('west', {6: 'answered'}, {})
+        self.trunks['east'].answers['status json'] = '{"fault": "not open yet", "circuits": []}\n\n'
+        self.assertEqual(self.waited('--all', 'wait', '9', 'blocked', '--for', '0'), (
+            3, ['east: not open yet', 'west: 9 blocked', 'not all are blocked after 0 s']))
+        for line in 'status --for 3', 'wait 7', 'wait 7 unheard', 'wait 31 idle', 'wait':
+            self.assertEqual(self.ctl('west', *line.split())[0], 2)
 
     def test_outages(self) -> None:
         """Of the file of a trunk; as text, as CSV, and as a page."""

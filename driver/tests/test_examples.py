@@ -273,7 +273,7 @@ class SipFrontEndTests(support.FolderCase):
 
     def test_a_circuit_that_the_operator_has_blocked(self) -> None:
         """It gets no call: the next one does."""
-        self.assertEqual(self.world.ask('drain 1'), 'drain 1: done')
+        self.assertEqual(self.world.ask('block 1'), 'block 1: done')
         self.is_up('first')
         self.assertEqual([self.world.state(n) for n in (1, 2)], ['idle', 'answered'])
 

@@ -22,7 +22,7 @@ from .logs import WrittenLog
 from e1gw.events import Event, Fed, NotFed
 from e1gw.holder_state import TrunkPlaces
 from e1gw.watcher import standby
-from e1gw.watcher.drains import Drains, KeptDrains
+from e1gw.watcher.blocks import Blocks, KeptBlocks
 from e1gw.watcher.feed import BACK, CARRIES, LENGTH, MARK, MOST_PIECE, PIECE, STATE, TAKES, FeedServer
 from e1gw.log_folder import STATE_ROOM, LogPair
 from e1gw.watcher.missed import passed
@@ -50,19 +50,19 @@ class FeedTests(support.LoopCase):
         self.log.turns()
         self.log.multiframe()
         reader = LogReader(self.path('log'), 0.1, None, lambda: None, bytes)
-        self.drains = KeptDrains(self.path('drains'))
+        self.blocks = KeptBlocks(self.path('blocked'))
         reader.told = lambda: self.log.octets
         self.addCleanup(reader.log.close)
         self.config = self.write('here.toml', support.config_text({1: {}, 2: {'local_port': 5000}}))
         state = self.state = SimpleNamespace(program=77)
         self.feed = FeedServer(HOST, mock.Mock(state=state, reader=reader, **{
-            'places.return_value': TrunkPlaces(self.folder), 'drains.return_value': self.drains,
+            'places.return_value': TrunkPlaces(self.folder), 'blocks.return_value': self.blocks,
             'numbers.return_value': (5, 1000), 'config_path': lambda: self.config,
             'carried_by': lambda: state.program}))
         server = await asyncio.start_server(self.feed.came, HOST, 0)
         self.addCleanup(server.close)
         self.place = server.sockets[0].getsockname()
-        self.told, self.handed, self.drained = list[Event](), list[bool](), list[list[int]]()
+        self.told, self.handed, self.blocked = list[Event](), list[bool](), list[list[int]]()
 
     def stands_by(self, config: str = '', law: str = 'A', tls: Sequence[str] = ()) -> TrunkStandby:
         """Somebody who is fed from now on."""
@@ -77,7 +77,7 @@ class FeedTests(support.LoopCase):
             """It is fed no more, as of a machine that carries the trunk."""
             self.handed.append(takes)
             runs.cancel()
-        its.is_handed, its.drains = is_handed, self.drained.append
+        its.is_handed, its.blocks = is_handed, self.blocked.append
         return its
 
     async def fed(self, its: TrunkStandby) -> None:
@@ -90,19 +90,19 @@ class FeedTests(support.LoopCase):
         its = self.stands_by()
         await self.fed(its)
         assert its.fed
-        self.assertEqual((its.fed.pid, its.fed.circuits, its.fed.place, self.told, self.drained),
+        self.assertEqual((its.fed.pid, its.fed.circuits, its.fed.place, self.told, self.blocked),
                          (77, [], self.log.place, [Fed(f'{HOST}:{self.place[1]}', 77)], [[]]))
         self.assertEqual((its.fed.number(), its.fed.folder), (5 + its.fed.octets // 1000, self.path('standby/fed')))
         last = its.last()
         self.assertEqual(last and (last.state, len(last.records)), (b'state', MULTIFRAME + 4))
-        self.drains.now = Drains().taken((2, 30))
+        self.blocks.now = Blocks().taken((2, 30))
         self.log.multiframe()
         self.log.turns()
         self.log.multiframe()
         await self.fed(its)
         last = its.last()
         self.assertEqual(last and (last.place, len(last.records)), (self.log.place - MULTIFRAME - 4, MULTIFRAME + 4))
-        self.assertEqual(self.drained, [[], [2, 30]])
+        self.assertEqual(self.blocked, [[], [2, 30]])
         for age in its.age(), self.feed.age():
             self.assertTrue(age is not None and 0 <= age < support.SECONDS)
 

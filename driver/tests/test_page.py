@@ -88,12 +88,13 @@ class PageTextTests(unittest.TestCase):
             self.assertEqual(('href' in text, 'secret' in text), (False, more is None))
 
     def test_circuits_that_are_blocked(self) -> None:
-        """An outgoing one stays idle: a tile and a square say that the operator has taken it. If the trunk is not open
-        nothing is known of a line."""
-        for fault, state, drain, words in (
-                (None, 'idle', 'drained', 'idle, drained'), (None, 'answered', None, 'answered'),
-                (None, 'acked', 'drains', 'acked, drains'), ('x', 'idle', None, NOT_OPEN)):
-            row = {'circuit': 7, 'state': state, 'role': 'outgoing', 'drain': drain}
+        """A tile and a square say so, though the line of an outgoing one is idle. If the trunk is not open nothing is
+        known of a line."""
+        for fault, state, blocked, words in (
+                (None, 'idle', 'blocked', 'blocked'), (None, 'blocked', 'blocked', 'blocked'),
+                (None, 'answered', None, 'answered'), (None, 'fault', 'blocked', 'fault, blocked'),
+                (None, 'acked', 'blocking', 'acked, blocking'), ('x', 'idle', None, NOT_OPEN)):
+            row = {'circuit': 7, 'state': state, 'role': 'outgoing', 'blocked': blocked}
             status: dict[str, Any] = {'fault': fault, 'http': ['', 9102], 'circuits': [row]}
             self.assertEqual(circuit_row(status, row, {})[:3], ['7', words, 'outgoing'])
             self.assertIn(f'<i data-s="{words}" title="7 {words}">',

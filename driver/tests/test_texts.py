@@ -12,8 +12,8 @@ from unittest import mock
 
 from . import support
 from e1gw import ctl_all, metrics
-from e1gw.events import (AlarmChanged, Burst, CallsCleared, CardAlarm, CardAlarmChanged, CircuitsDrained, Connected,
-                         Crc4Change, Crc4Changed, Disconnected, DrainNews, Event, Fed, Flows, LineChanged, NotFed,
+from e1gw.events import (AlarmChanged, BlockNews, Burst, CallsCleared, CardAlarm, CardAlarmChanged, CircuitsBlocked,
+                         Connected, Crc4Change, Crc4Changed, Disconnected, Event, Fed, Flows, LineChanged, NotFed,
                          RateChanged, RemoteAlarmChanged, RoleGiven, SatopChanged, Slip, SlotsChange, SlotsChanged,
                          LogLost, Stalled, TrunkLost, TrunkOpened, WatchEnded)
 from e1gw.faults import Parser, checked, named, number, options_words, words_of_fault, words_of_refusal
@@ -27,7 +27,7 @@ ROW: dict[str, Any] = {
     'circuit': 7, 'role': 'incoming', 'state': 'answered', 'sent': '01', 'recognised': '00', 'for': 12.34,
     'seizures': 5, 'answers': 4, 'unacknowledged': 3, 'faults': 2, 'open': 67.89, 'codec': 'g726-32',
     'jitter_buffer_ms': 40.0, 'datagrams': {'sent': 101, 'admitted': 102, 'Late': 6, 'Full': 8}, 'lost': 9,
-    'jitter_ms': 1.2344, 'drain': None,
+    'jitter_ms': 1.2344, 'blocked': None,
     'socket': {'waiting': 13, 'dropped': 14}}
 IDLE: dict[str, Any] = ROW | {'circuit': 8, 'state': 'idle', 'datagrams': {'sent': 0, 'admitted': 0}, 'socket': None}
 # (86,400 s and some: 1970-01-02 00:01:40 UTC)
@@ -72,7 +72,7 @@ e1gw_crc4_errored_total{end="other"} 33
 e1gw_crc4_alignment_losses_total 35
 e1gw_circuit_state{circuit="7",role="incoming",state="answered"} 1
 e1gw_circuit_state{circuit="8",role="incoming",state="idle"} 1
-e1gw_circuit_drain{circuit="7"} 0
+e1gw_circuit_blocked{circuit="7"} 0
 e1gw_circuit_seizures_total{circuit="7"} 5
 e1gw_circuit_answers_total{circuit="7"} 4
 e1gw_circuit_unacknowledged_total{circuit="7"} 3
@@ -228,8 +228,8 @@ class EventAndFaultTextTests(unittest.TestCase):
             (AlarmChanged(Alignment.MULTIFRAME, False, 0), 'alarm over: loss of multiframe alignment'),
             (RemoteAlarmChanged(Alignment.FRAME, True, 0), 'alarm of the other end: RAI (bit A)'),
             (CallsCleared('it is dark', (1, 2)), 'calls cleared, it is dark: circuits 1, 2'),
-            (CircuitsDrained(DrainNews.SEIZED, (1, 2)),
-             'seized before they were blocked, and blocked once these calls have ended: circuits 1-2'),
+            (CircuitsBlocked(BlockNews.SEIZED, (1, 2)),
+             'seized before the block: blocking, until these calls have ended: circuits 1-2'),
             (Stalled(1.0), 'no octets of the trunk for 1.0 s'), (Flows(2.5), 'octets again after 2.5 s'),
             (Slip(0.5), 'slip: 0.5 s of the trunk were lost'),
             (Burst(0.5), 'burst: 0.5 s of the trunk came too early'),

@@ -79,8 +79,8 @@ class JoinedTrunk(StandInDriver):
 
     def operator(self, n: int, blocks: bool) -> None:
         """The operator blocks a circuit, or takes that back."""
-        self.drained = self.drained | {n} if blocks else self.drained - {n}
-        self.obey(['block' if blocks else 'unblock', str(n)])
+        self.blocked = self.blocked | {n} if blocks else self.blocked - {n}
+        self.obey(['block' if blocks else 'unblock', str(n), 'auto'])
 
     async def asks(self, line: str) -> str:
         await asyncio.sleep(0.001)

@@ -306,24 +306,24 @@ class TwoMachinesTests(PairCase):
                          'again')
         self.goes_on_unaligned()
 
-    def drained(self, machine: Machine) -> list[str | None]:
+    def blocked(self, machine: Machine) -> list[str | None]:
         """What it says of circuits 7 and 8."""
-        return [row['drain'] for row in json.loads(machine.ask('status json'))['circuits'][6:8]]
+        return [row['blocked'] for row in json.loads(machine.ask('status json'))['circuits'][6:8]]
 
     def test_a_standby_is_replaced(self) -> None:
         """Another watcher in the place of its one is fed, can take over, and has what the operator has blocked."""
         a, b = self.calls_with_standby()
-        self.assertRegex(a.ask('drain 7-8'), 'blocked once their calls have ended: circuits 7-8\ndrain 7-8: done')
-        self.assertEqual(b.ask('drain 9'), 'drain 9: the other machine is to carry the trunk')
-        support.until(lambda: self.drained(b) == ['drains', 'drains'])
+        self.assertRegex(a.ask('block 7-8'), 'blocking, until their calls have ended: circuits 7-8\nblock 7-8: done')
+        self.assertEqual(b.ask('block 9'), 'block 9: the other machine is to carry the trunk')
+        support.until(lambda: self.blocked(b) == ['blocking', 'blocking'])
         b.kill_watcher()
         b.watches_again()
         b.answers()
-        self.assertEqual(a.ask('undrain 8'), 'undrain 8: done')
+        self.assertEqual(a.ask('unblock 8'), 'unblock 8: done')
         self.fed(b)
         a.power_off()
         self.promoted(b)
-        self.assertEqual(self.drained(b), ['drains', None])
+        self.assertEqual(self.blocked(b), ['blocking', None])
         self.goes_on_unaligned()
 
     def goes_on_unaligned(self) -> None:

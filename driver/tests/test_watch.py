@@ -80,7 +80,7 @@ class WatchEdgeTests(TrunkWatchCase):
                            (ProgramConnection, 'told'), (Resyncs, 'counted')):
             with self.subTest(what), mock.patch.object(kind, what, side_effect=KeyError('odd')):
                 found = self.watched()
-                found.drains, follower = mock.Mock(), mock.Mock()
+                found.blocks, follower = mock.Mock(), mock.Mock()
                 setattr(found.status, 'tell', found.tell)
                 setattr(found._server, 'followers', lambda: [follower])
                 found._lines.begin(0)
@@ -94,7 +94,7 @@ class WatchEdgeTests(TrunkWatchCase):
     async def test_refused_datagrams_restart_their_call(self) -> None:
         """By what the program tells of them."""
         found = self.watched()
-        found.drains = mock.Mock()
+        found.blocks = mock.Mock()
         lines = [*BEGIN, row(3, 'answered', '00 11'), 'now']
         lines += [each for n in range(1, 5) for each in (f'at {30_000 * n}', counts(3, 0, Full=n))]
         found._lines.begin(0)

@@ -17,10 +17,10 @@ from e1gw.session import MULTIFRAME, trunk_record
 from e1gw.slots import SlotsNote
 from e1gw.watcher import door
 from e1gw.watcher.decisions import Flow
-from e1gw.watcher.drains import Drain, Drains
+from e1gw.watcher.blocks import BlockStage, Blocks
 from e1gw.watcher.held import HeldNote, events_of, fault_of, nearest, wait_of
 from e1gw.watcher.main import WatchLock, is_over, parser
-from e1gw.watcher.memo import WatchNote, drains_told, note_in
+from e1gw.watcher.memo import WatchNote, blocks_told, note_in
 from e1gw.watcher.reader import LogReader, ReadingNote
 from e1gw.watcher.recordings import RecordingNote
 from e1gw.watcher.said import LineNote, SaidFile, SaidLine, SaidNote
@@ -65,18 +65,19 @@ class WatchNoteTests(unittest.TestCase):
                 {'errored': 1}, None, {}), SlotsNote(False, 1, 2, 3)), 8, 1),
             ReadingNote(1, 2, 3, ((4, 5.0),), 6.0),
             ToldNote(True, 1.0, (True, False) * 2, (1, 2), Flow(1, 2.0, 3.0, 4)),
-            ShownNote((('trunk open', 1.0),), (('alarm frame', 'LFA', 2.0),), ('a,b',)), {1: 'DRAINED'},
+            ShownNote((('trunk open', 1.0),), (('alarm frame', 'LFA', 2.0),), ('a,b',)), {1: 'BLOCKED'},
             RecordingNote('s', 60, '', (('a', 1),), 'p', 1, 2, 3, 4),
             CallsNote(1, 2.0, {1: ('idle', 3, 4.0)}, (CallRecord(1, 2.0, 3),), {1: {'sent': 5}}, ('line',)))
         self.assertEqual(note_in(note.text()), note)
         for octets in b'', b'{}', note.text().replace(b'"version": 1,', b'"version": 0,'), note.text()[:-9]:
             self.assertIsNone(note_in(octets))
 
-    def test_drains(self) -> None:
+    def test_blocks(self) -> None:
         """What was told of a circuit is not told again, nor of one that is no longer blocked."""
-        kept = Drains().taken((1, 2))
-        self.assertEqual(drains_told(kept, {1: 'DRAINED', 3: 'IDLE'}).circuits, {1: Drain.DRAINED, 2: Drain.TAKEN})
-        self.assertEqual(drains_told(kept, {1: 'x'}), kept)
+        kept = Blocks().taken((1, 2))
+        self.assertEqual(blocks_told(kept, {1: 'BLOCKED', 3: 'IDLE'}).circuits,
+                         {1: BlockStage.BLOCKED, 2: BlockStage.TAKEN})
+        self.assertEqual(blocks_told(kept, {1: 'x'}), kept)
 
 
 class SaidFileTests(support.FolderCase):

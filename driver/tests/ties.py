@@ -95,7 +95,7 @@ class StandInDriver:
         self.pairs = dict.fromkeys(roles, IDLE)
         self.seizures = dict.fromkeys(roles, 0)
         self.codecs = dict.fromkeys(roles, G726)
-        self.drained = set[int]()       # which the operator has blocked
+        self.blocked = set[int]()       # which the operator has blocked
         self.silent = False             # it answers nothing
         self.knows = True               # its program has told it the states
         self.life = 'a'
@@ -143,8 +143,9 @@ class StandInDriver:
         n, command = int(words[1]), next(each for each in Command if each.word == words[0])
         of, to = DONE[command]
         mine = (self.roles[n] is Role.OUTGOING) == (command in (Command.SEIZE, Command.CLEAR))
-        is_taken = n in self.drained and command in (Command.SEIZE, Command.UNBLOCK)
-        answer = 'done' if mine and self.states[n] in of and not is_taken else 'not idle'
+        is_taken = n in self.blocked and command in (Command.SEIZE, Command.UNBLOCK)
+        is_kept = command in (Command.BLOCK, Command.UNBLOCK) and words[2:] != ['auto']     # (no tie's)
+        answer = 'done' if mine and self.states[n] in of and not (is_taken or is_kept) else 'not idle'
         if answer == 'done':
             self.move(n, to)
         self.tell(event='command', circuit=n, command=words[0], answer=answer)
@@ -156,7 +157,7 @@ class StandInDriver:
                  'alarm': {**none, 'frame': self.alarm}, 'remote_alarm': none}
         return trunk | {'circuits': [
             {'circuit': n, 'role': str(self.roles[n]), 'state': str(self.states[n]) if self.knows else UNKNOWN,
-             'seizures': self.seizures[n], 'drain': 'drained' if n in self.drained else None,
+             'seizures': self.seizures[n], 'blocked': 'blocked' if n in self.blocked else None,
              'for': asyncio.get_running_loop().time() - self.since[n],
              'codec': self.codecs[n].codec, 'payload': self.codecs[n].payload,
              'configured_codec': G726.codec, 'configured_payload': G726.payload}

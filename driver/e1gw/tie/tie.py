@@ -78,7 +78,7 @@ class Tie:
             self._seizures[n] = row['seizures']
             known = self.circuits.get(n)
             call = call_name(self._life, self._seizures[n]) if role is Role.INCOMING else known.call if known else None
-            self.circuits[n] = begun(known, TieCircuit(role, state, call, kept=row.get('drain') is not None))
+            self.circuits[n] = begun(known, TieCircuit(role, state, call, kept=row.get('blocked') is not None))
         states = Counter(str(circuit.state) for circuit in self.circuits.values())
         self.tell(TrunkFollowed(dict(sorted(states.items()))))
         self.codecs.begin(status)
@@ -92,7 +92,7 @@ class Tie:
         for row in status['circuits']:
             n = row['circuit']
             self.codecs.stands(row)
-            self._put(n, replace(self.circuits[n], kept=row.get('drain') is not None))
+            self._put(n, replace(self.circuits[n], kept=row.get('blocked') is not None))
             if n not in self._busy:
                 circuit, state, self._seizures[n] = self.circuits[n], State(row['state']), row['seizures']
                 call = call_name(self._life, self._seizures[n]) if circuit.role is Role.INCOMING else circuit.call
@@ -162,7 +162,8 @@ class Tie:
     async def _do(self, n: int, command: Command, why: str | None) -> None:
         loop = asyncio.get_running_loop()
         far, began = self.circuits[n].far, loop.time()
-        answer = await self.trunk.answer(f'{command.word} {n}')
+        auto = ' auto' * (command in (Command.BLOCK, Command.UNBLOCK))      # (no operator's)
+        answer = await self.trunk.answer(f'{command.word} {n}{auto}')
         if answer is None:
             del self._busy[n]
             return

@@ -2,9 +2,10 @@
 
 A line is answered by one or more lines and an empty one:
 
-  seize N, clear N, answer N, clear-back N, block N, unblock N     `seize 3: done`, or the words of the refusal
-  drain N, drain N now       N, or all of N-M, takes no more calls: an operator's block, at the end of its call or now
-  undrain N                  takes that back
+  seize N, clear N, answer N, clear-back N     `seize 3: done`, or the words of the refusal
+  block N, block N now       the operator takes N, or all of N-M, out of service: at the end of its call, or now
+  unblock N                  takes that back
+  block N auto, unblock N auto    the same by a program: of an idle incoming circuit, not kept, and no operator's
   codec N CODEC TYPE         pcma, pcmu, g726-16, g726-24, g726-32, g726-40 and an RTP payload type, from now on
   status, status json        the table, or all of it as one line of JSON
   status N                   the row of circuit N
@@ -135,17 +136,19 @@ class CommandServer:
                 return await self._trunk.trunk.reload(words[1:] == ['force'])
             case ['role' | 'promote' | 'demote' | 'move' as word]:
                 return await self._trunk.trunk.role(word)
-            case ['drain', _] | ['drain', _, 'now'] | ['undrain', _]:
-                return await self._obey_drain(*words)
+            case ['block', _] | ['block', _, 'now'] | ['unblock', _]:
+                return await self._obey_block(*words)
+            case ['block' | 'unblock' as name, word, 'auto']:
+                return await self._obey_circuit(name, [word])
             case ['quit']:
                 return await self._trunk.trunk.ends()
             case [name, *rest] if name in COMMANDS or name == 'codec':
                 return await self._obey_circuit(name, rest)
-        return (f'{words[0][:40]}: no such command; there are {", ".join(COMMANDS)}, drain, undrain, codec, status, '
-                'events, role, promote, demote, move, reload, quit and help')
+        return (f'{words[0][:40]}: no such command; there are {", ".join(COMMANDS)}, codec, status, events, '
+                ' role, promote, demote, move, reload, quit and help')
 
-    async def _obey_drain(self, name: str, word: str, *now: str) -> str:
-        """An operator takes circuits, or gives them back."""
+    async def _obey_block(self, name: str, word: str, *now: str) -> str:
+        """An operator takes circuits out of service, or gives them back."""
         trunk, front = self._trunk, f'{name} {word[:40]}: '
         try:
             circuits = circuits_of(word)
@@ -153,7 +156,7 @@ class CommandServer:
             return f'{front}circuits are 1 to 30'
         if trunk.trunk.stands_by():
             return f'{front}the other machine is to carry the trunk'
-        told = await (trunk.drains.take(circuits, bool(now)) if name == 'drain' else trunk.drains.give_back(circuits))
+        told = await (trunk.blocks.take(circuits, bool(now)) if name == 'block' else trunk.blocks.give_back(circuits))
         return '\n'.join(f'{front}{line}' for line in told)
 
     async def _obey_circuit(self, name: str, words: list[str]) -> str:
@@ -172,7 +175,7 @@ class CommandServer:
             command = COMMANDS[name]
             # (No exchange could see a seizure in an outage, and 200 ms later it would be released.)
             outage = trunk.status.outage() if command is Command.SEIZE else None
-            if fault := trunk.drains.refusal(circuit, command) or outage:
+            if fault := trunk.blocks.refusal(circuit, command) or outage:
                 trunk.count(circuit, name, fault)
                 return front + fault
             return front + await trunk.give(circuit, command)

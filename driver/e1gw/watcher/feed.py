@@ -25,7 +25,7 @@ FORMAT, VERSION = 'e1gw_feed', 8
 PIECE = struct.Struct('>di')    # before a piece: when it was all that the log had, or 0, and how many octets follow
 # In place of the latter: nothing follows; it may have the trunk; it is to carry it; another state follows; it is to
 # carry it no more, since it was silent; the circuits that the operator has blocked follow, each a bit.
-END, YOURS, GO, STATE, BACK, DRAINS = -1, -2, -3, -4, -5, -6
+END, YOURS, GO, STATE, BACK, BLOCKS = -1, -2, -3, -4, -5, -6
 LENGTH = struct.Struct('>I')    # octets of that state, or those bits
 MARK = struct.Struct('>d')      # what a standby says: the time of the last piece, up to which it has all, or 0
 TAKES, CARRIES = -1.0, -2.0     # in place of that: it takes the trunk, again and again until it carries it
@@ -92,7 +92,7 @@ class FeedServer:
 
     def __init__(self, peer: str, trunk: HeldTrunk, context: ssl.SSLContext | None = None) -> None:
         self._peer, self._trunk, self._context = peer, trunk, context
-        self._said_drains, self._tasks = -1, Tasks()            # which circuits are blocked, as it was said last
+        self._said_blocks, self._tasks = -1, Tasks()            # which circuits are blocked, as it was said last
         self._writer: asyncio.StreamWriter | None = None        # to the standby that is fed
         self._said = self._fresh = 0.0          # when it has said something, and up to when it has all
         self.hands_over = False                 # at the end of the program
@@ -178,19 +178,19 @@ class FeedServer:
         law, circuits = configured(trunk.config_path())
         head = FeedHead(law, circuits, program, pair.place, reader.octets_at(pair), *trunk.numbers(), len(pair.state))
         writer.write(head.spell() + pair.state)
-        self._due, self._said_drains = 0.0, -1
+        self._due, self._said_blocks = 0.0, -1
         return FolderReader(files, pair.place)
 
-    def _say_drains(self, writer: asyncio.StreamWriter) -> None:
+    def _say_blocks(self, writer: asyncio.StreamWriter) -> None:
         """Which circuits the operator has blocked, if that is not said yet."""
-        bits = sum(1 << n for n in self._trunk.drains().now.circuits)
-        if bits != self._said_drains:
-            writer.write(PIECE.pack(0.0, DRAINS) + LENGTH.pack(bits))
-            self._said_drains = bits
+        bits = sum(1 << n for n in self._trunk.blocks().now.circuits)
+        if bits != self._said_blocks:
+            writer.write(PIECE.pack(0.0, BLOCKS) + LENGTH.pack(bits))
+            self._said_blocks = bits
 
     def _goes_on(self, log: FolderReader, writer: asyncio.StreamWriter, now: float) -> bool:
         """Sends what the log has now; whether that is anything. EOFError if a part of it was written over."""
-        self._say_drains(writer)
+        self._say_blocks(writer)
         news = log.look()
         for each in news:
             if isinstance(each, LogBegun):

@@ -22,7 +22,7 @@ from ..session import OCTETS_A_SECOND
 from .card import CardWatch
 from .connection import connected
 from .door import asked
-from .drains import KeptDrains
+from .blocks import KeptBlocks
 from .process import start_of
 from .reader import MOST_FOUND, LogReader
 from .replay import ReplayVersion
@@ -108,7 +108,7 @@ class HeldTrunk(WatchedTrunk):
         self._session, self._begun = (note.session, note.begun) if note else ('', 0)
         self._log_losses = note.log_losses if note else 0
         self._line, self._card = self._said(note.line if note else None), CardWatch(tell, note.alarms if note else 0)
-        self._drains = KeptDrains(f'{state.state}.drains' if state.state else os.path.join(places.folder, 'drains'))
+        self._blocks = KeptBlocks(f'{state.state}.blocked' if state.state else os.path.join(places.folder, 'blocked'))
         self._pid = note.logged if note else 0  # of the program that had the log at the last state
         self._begins = list[int]()              # octets at states with which it may have begun
         self._config = note.config if note else digest_of(self.config_octets())
@@ -198,8 +198,8 @@ class HeldTrunk(WatchedTrunk):
     def places(self) -> TrunkPlaces:
         return self._places
 
-    def drains(self) -> KeptDrains:
-        return self._drains
+    def blocks(self) -> KeptBlocks:
+        return self._blocks
 
     def stands_by(self) -> bool:
         return self.state.role == STANDBY

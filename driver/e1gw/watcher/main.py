@@ -27,7 +27,7 @@ from ..writers import hold_descriptors
 from .commands import CannotListen
 from .held import HeldTrunk, state_of, wait_of
 from .journal import ServiceJournal
-from .memo import WatchNote, drains_told, note_in
+from .memo import WatchNote, blocks_told, note_in
 from .note import NoteFiles
 from .notifier import Notifier
 from .options import add_options, feeding_of, folder_now, recording_of, watched_of
@@ -121,15 +121,15 @@ class Watcher:
         watch.was_shown(note.shown)
         if note.calls:
             watch.take_up(note.calls)
-        kept = watch.drains.kept
-        kept.now = drains_told(kept.now, note.drains)
+        kept = watch.blocks.kept
+        kept.now = blocks_told(kept.now, note.blocks)
 
     def note(self) -> None:
         """Notes what the next watcher goes on with."""
         watch, reader = self._watch, self._reader
         with goes_on('the note for the next watcher'):
-            drains = {n: each.name for n, each in watch.drains.kept.now.circuits.items()}
-            text = WatchNote(self._trunk.noted(), reader.noted(), watch.status.told(), watch.shown(), drains,
+            blocks = {n: each.name for n, each in watch.blocks.kept.now.circuits.items()}
+            text = WatchNote(self._trunk.noted(), reader.noted(), watch.status.told(), watch.shown(), blocks,
                              reader.recording_note(), watch.status.calls_note()).text()
             try:
                 self._notes.put(text)

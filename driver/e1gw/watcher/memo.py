@@ -7,7 +7,7 @@ from contextlib import suppress
 from dataclasses import dataclass
 
 from ..calls import CallsNote
-from .drains import Drain, Drains
+from .blocks import BlockStage, Blocks
 from .held import HeldNote
 from .note import typed
 from .reader import ReadingNote
@@ -26,7 +26,7 @@ class WatchNote:
     read: ReadingNote
     told: ToldNote
     shown: ShownNote
-    drains: dict[int, str]
+    blocks: dict[int, str]
     recording: RecordingNote | None
     calls: CallsNote | None
 
@@ -44,8 +44,8 @@ def note_in(octets: bytes) -> WatchNote | None:
     return None
 
 
-def drains_told(now: Drains, told: dict[int, str]) -> Drains:
+def blocks_told(now: Blocks, told: dict[int, str]) -> Blocks:
     """The circuits that the operator has blocked, as far as was told."""
     with suppress(KeyError):
-        return Drains({n: Drain[told[n]] if n in told else each for n, each in now.circuits.items()})
+        return Blocks({n: BlockStage[told[n]] if n in told else each for n, each in now.circuits.items()})
     return now

@@ -15,7 +15,7 @@ from typing import Any, Iterable, Mapping, Sequence
 from ..calls import CallLine
 from ..ctl_all import TrunkHere, TrunkLine
 from ..events import ReadEvent
-from ..metrics import NOT_OPEN, head_of
+from ..metrics import NOT_OPEN, head_of, states_of
 from ..session import CIRCUITS
 from ..session_clock import second_of
 
@@ -66,8 +66,8 @@ def length(seconds: float) -> str:
 
 
 def state_words(status: Mapping[str, Any], row: Mapping[str, Any]) -> str:
-    """The state of a circuit, and how far its block by the operator is."""
-    return NOT_OPEN if status.get('fault') else ', '.join(filter(None, (row['state'], row.get('drain'))))
+    """The state of a circuit, with how far its block by the operator is."""
+    return NOT_OPEN if status.get('fault') else ', '.join(states_of(row))
 
 
 def circuit_row(status: Mapping[str, Any], row: Mapping[str, Any], calls: Mapping[str, Mapping[str, str]]) -> list[str]:

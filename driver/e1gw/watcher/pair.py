@@ -39,7 +39,7 @@ class TrunkPair:
         self._follows: asyncio.Task[None] | None = None         # by which it is fed
         self._change: asyncio.Task[str] | None = None           # what was asked for last
         self._word, self._has_carried, self._tasks = '', False, Tasks()
-        standby.is_handed, standby.carries, standby.drains = self._is_handed, self._carries, self._drained
+        standby.is_handed, standby.carries, standby.blocks = self._is_handed, self._carries, self._blocked
 
     def begins(self, host: str, port: int) -> None:
         """Begins to feed, and to follow the holder."""
@@ -208,9 +208,9 @@ class TrunkPair:
                 'feed_age': age and round(age, 3), **({} if not stands else {
                     'feed_fault': standby.why or None, 'differs': standby.fed.circuits if standby.fed else []})}
 
-    def _drained(self, circuits: list[int]) -> None:
+    def _blocked(self, circuits: list[int]) -> None:
         """The operator has blocked these at the other machine."""
-        kept = self._trunk.drains()
+        kept = self._trunk.blocks()
         self._tasks.begin(kept.put(kept.now.only(circuits)))
 
     def _stands(self) -> bool:

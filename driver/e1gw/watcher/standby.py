@@ -20,7 +20,7 @@ from ..events import Fed, NotFed, Tell
 from ..faults import words_of_fault
 from ..session import CIRCUITS, MULTIFRAME, OCTETS_A_SECOND, trunk_record, whole_records
 from ..tls import context_of
-from .feed import (BACK, CARRIES, DRAINS, END, FRESH, GO, LENGTH, MARK, MOST_HEAD, MOST_PIECE, NOTHING, PATIENCE,
+from .feed import (BACK, BLOCKS, CARRIES, END, FRESH, GO, LENGTH, MARK, MOST_HEAD, MOST_PIECE, NOTHING, PATIENCE,
                    PIECE, STATE, TAKES, YOURS, FeedHead, FeedRefused, configured, head_of)
 from ..log_folder import RECORDS_ROOM, STATE_ROOM, LogFiles, LogPair, LogWriter, NoRoom
 from .replay import ReplayVersion
@@ -166,7 +166,7 @@ class TrunkStandby:
         self._folder, self._tell, self._by = trunk.places().folder, tell, f'{place[0]}:{place[1]}'
         self.is_handed: Callable[[bool], None] = lambda takes: None     # this machine is to carry the trunk, or no more
         self.carries: Callable[[], bool] = lambda: False        # whether it does
-        self.drains: Callable[[list[int]], None] = lambda circuits: None    # the operator has blocked these there
+        self.blocks: Callable[[list[int]], None] = lambda circuits: None    # the operator has blocked these there
         self._taking: asyncio.Task[None] | None = None          # what says so to the other machine
         for left in glob.glob(os.path.join(glob.escape(self._folder), f'{FED}*')):     # (of a watcher before it)
             shutil.rmtree(left, ignore_errors=True)
@@ -246,9 +246,9 @@ class TrunkStandby:
                 if length == STATE:
                     fed.begin(await self._state(reader))
                     continue
-                if length == DRAINS:
+                if length == BLOCKS:
                     bits, = LENGTH.unpack(await reader.readexactly(LENGTH.size))
-                    self.drains([n for n in CIRCUITS if bits >> n & 1])
+                    self.blocks([n for n in CIRCUITS if bits >> n & 1])
                     continue
                 fed.take(await reader.readexactly(max(0, length)))
             if at:

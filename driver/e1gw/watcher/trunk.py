@@ -13,7 +13,7 @@ from typing import Any, Protocol, Sequence
 from ..faults import words_of_fault
 from ..session import whole_records
 from .connection import connected
-from .drains import KeptDrains
+from .blocks import KeptBlocks
 from .missed import MissedReports, told_again
 from .reader import LogReader
 from .replay import ReplayVersion
@@ -50,7 +50,7 @@ class WatchedTrunk(ABC):
         """Where its program is found."""
 
     @abstractmethod
-    def drains(self) -> KeptDrains:
+    def blocks(self) -> KeptBlocks:
         """The circuits that the operator has blocked."""
 
     @abstractmethod

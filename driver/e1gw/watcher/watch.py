@@ -26,7 +26,7 @@ from ..resyncs import Resyncs
 from ..session import Codec, Command, codec_record, command_record
 from .commands import MOST_LINE, CannotListen, CommandServer, unix_listener
 from .connection import NoAnswer, ProgramConnection
-from .drains import DrainWatch
+from .blocks import BlockWatch
 from .events import EventFile, json_line, tell_journal
 from .journal import NOTICE
 from .page import PageNotes
@@ -88,8 +88,8 @@ class TrunkWatch:
         self.pages = TrunkPages(self._values, self.status.take_now, list(self._lines.lines.values()),
                                 PageNotes(self._events.last, self._ended_calls, wants.kept))
         self._server = CommandServer(self)
-        self.drains = DrainWatch(trunk.drains(), self._lines, self.give, self.tell)
-        self.status.is_followed = lambda: bool(self._server.followers() or self.drains.kept.now.left())
+        self.blocks = BlockWatch(trunk.blocks(), self._lines, self.give, self.tell)
+        self.status.is_followed = lambda: bool(self._server.followers() or self.blocks.kept.now.left())
         self.status.waiting = lambda: [*islice(self._calls.waiting, NOTED)] if self._calls else []
         self.disconnects = DisconnectWatch(on_loss_of(wants.on_loss), self.clear_all)
         self._outages = OutageWatch(wants.dark, self.clear_all)
@@ -104,7 +104,7 @@ class TrunkWatch:
 
     async def command(self, record: bytes, circuit: int, words: str) -> str:
         try:
-            with self.drains.under_way(circuit):
+            with self.blocks.under_way(circuit):
                 refusal = (await self._program.ask(record, self.status.teller)).refusal
             text = refusal.words if refusal else 'done'
             more = words_of_refusal(refusal, circuit, self._lines.lines[circuit].role) if refusal else text
@@ -177,7 +177,7 @@ class TrunkWatch:
         """Tells a change to the journal and to all who follow. One that fails takes it from no other."""
         if isinstance(event, LineChanged):
             event = replace(event, call=self._call_of(event))
-            self._loop.call_soon(self.drains.look)
+            self._loop.call_soon(self.blocks.look)
         for hears in tell_journal, self._show, self._tell_followers:
             guarded(hears, WATCH)(event)
 
@@ -237,7 +237,7 @@ class TrunkWatch:
         status['clock'] = self.trunk.flow() | status['clock']
         status |= facts['carried'] | facts['pair']
         for row in status['circuits']:
-            row.update(self._counts.status(row['circuit']) | {'drain': self.drains.kept.now.word(row['circuit'])})
+            row.update(self._counts.status(row['circuit']) | {'blocked': self.blocks.kept.now.word(row['circuit'])})
         return status
 
     # ---- the whole ----
@@ -284,7 +284,7 @@ class TrunkWatch:
         self.status.look_at_flow(now)
         self._restarts.look(now, self._lines.place, self._lines.open_circuits(), not self._counts.stale())
         self.disconnects.look(now)
-        self.drains.look()
+        self.blocks.look()
         self._outages.look(now, self.status.outage())
 
     def goes_on(self) -> None:

@@ -22,7 +22,7 @@ from e1gw.ctl_all import TrunkLine
 from e1gw.exchange import IDLE, SEIZED
 from e1gw.lines import IN_CALL, Line, Role, State
 from e1gw.metrics import exposition
-from e1gw.watcher.drains import BY_OPERATOR, DrainWatch, Drains, KeptDrains
+from e1gw.watcher.blocks import BY_OPERATOR, BlockWatch, Blocks, KeptBlocks
 from e1gw.session import Command
 
 ROLES = {1: Role.OUTGOING, 2: Role.INCOMING, 3: Role.INCOMING}
@@ -38,14 +38,14 @@ CLIENTS = {State.IDLE: Command.SEIZE, State.ACKED: Command.ANSWER, State.ANSWERE
 LOST = 'no answer, the connection to the program is lost'
 
 
-class KeptInMemory(KeptDrains):
+class KeptInMemory(KeptBlocks):
     """Keeps them in memory."""
 
     def __init__(self, circuits: frozenset[int] = frozenset()) -> None:
         super().__init__('')
-        self.now = Drains().only(circuits)
+        self.now = Blocks().only(circuits)
 
-    async def put(self, now: Drains) -> str:
+    async def put(self, now: Blocks) -> str:
         self.now = now
         return ''
 
@@ -68,7 +68,7 @@ class Trunk:
         self.view = SimpleNamespace(live=True, lines={n: Line(n, role, state=self.states[n])
                                                       for n, role in ROLES.items()})
         self.life += 1
-        self.watch = DrainWatch(disk, cast(Any, self.view), partial(self.give, self.life), lambda event: None)
+        self.watch = BlockWatch(disk, cast(Any, self.view), partial(self.give, self.life), lambda event: None)
 
     async def give(self, life: int, n: int, command: Command) -> str:
         """As the service gives a command, its own or that of a client. (One that has died gives none.)"""
@@ -185,10 +185,10 @@ STEPS = ('take', 'take_now', 'back', 'back_lost', 'exchange', 'exchange', 'clien
          'dies', 'restarts', 'goes')
 
 
-class DrainTests(PropertyCase):
+class BlockTests(PropertyCase):
     def test_random_sequences(self) -> None:
-        """No call of a circuit that is taken ends by the service, but by `now`; none is up in one that is drained; each
-        is drained once its call has ended; and once all are given back everything is as before."""
+        """No call of a circuit that is taken ends by the service, but by `now`; none is up in one that is blocked; each
+        is blocked once its call has ended; and once all are given back everything is as before."""
         step = self.st.tuples(self.st.sampled_from(STEPS), self.st.sampled_from([*ROLES]))
         steps = self.st.lists(step, min_size=8, max_size=12)
         with asyncio.Runner() as runner:
@@ -203,7 +203,7 @@ class DrainTests(PropertyCase):
             await getattr(trunk, step)(n)
             await passes()
             self.assertFalse([n for n, state in trunk.states.items() if state in IN_CALL
-                              and trunk.watch.kept.now.word(n) == 'drained'], step)
+                              and trunk.watch.kept.now.word(n) == 'blocked'], step)
             if step not in ('take_now', 'client'):
                 self.assertFalse({*trunk.gave[before:]} & {Command.CLEAR, Command.CLEAR_BACK}, step)
             elif step == 'take_now' and ends:
@@ -217,7 +217,7 @@ class DrainTests(PropertyCase):
             await trunk.settles()
         self.assertFalse(trunk.needless)                # (a block beside one that is not answered, or to no program)
         kept = trunk.watch.kept.now
-        self.assertEqual({n: kept.word(n) for n in kept.circuits}, dict.fromkeys(trunk.taken, 'drained'))
+        self.assertEqual({n: kept.word(n) for n in kept.circuits}, dict.fromkeys(trunk.taken, 'blocked'))
         self.assertEqual(trunk.states, {n: State.BLOCKED if n in trunk.taken and role is Role.INCOMING else State.IDLE
                                         for n, role in ROLES.items()})
         for n in ROLES:
@@ -229,20 +229,20 @@ class DrainTests(PropertyCase):
 class KeptTests(support.FolderCase, unittest.IsolatedAsyncioTestCase):
     async def test_file(self) -> None:
         """The last one of several at once is in it; what is none, or cannot be written, ends nothing."""
-        kept = KeptDrains(self.path('drains'))
-        told = await asyncio.gather(*(kept.put(Drains().taken(range(1, n))) for n in (3, 31, 5)))
-        self.assertEqual((told, json.loads(support.text_of(self.path('drains')))), ([''] * 3, [1, 2, 3, 4]))
-        self.assertEqual([*KeptDrains(self.path('drains')).now.circuits], [1, 2, 3, 4])
+        kept = KeptBlocks(self.path('blocked'))
+        told = await asyncio.gather(*(kept.put(Blocks().taken(range(1, n))) for n in (3, 31, 5)))
+        self.assertEqual((told, json.loads(support.text_of(self.path('blocked')))), ([''] * 3, [1, 2, 3, 4]))
+        self.assertEqual([*KeptBlocks(self.path('blocked')).now.circuits], [1, 2, 3, 4])
         with mock.patch.object(os, 'fsync') as synced:
-            await kept.put(Drains())
+            await kept.put(Blocks())
         self.assertTrue(synced.called, 'a crash of the machine empties the file')
         for octets in (b'', b'7', b'{"1": 2}', b'[1', b'[31, "a"]', b'\xff'):
-            with mock.patch('e1gw.watcher.drains.logger'):
-                self.assertEqual(KeptDrains(self.write('bad', octets)).now.circuits, {}, octets)
-        self.assertRegex(await KeptDrains(self.path('none/drains')).put(Drains()), 'none/drains.*: No such file')
+            with mock.patch('e1gw.watcher.blocks.logger'):
+                self.assertEqual(KeptBlocks(self.write('bad', octets)).now.circuits, {}, octets)
+        self.assertRegex(await KeptBlocks(self.path('none/blocked')).put(Blocks()), 'none/blocked.*: No such file')
 
 
-class DrainedTrunkTests(unittest.TestCase):
+class BlockedTrunkTests(unittest.TestCase):
     def test_one_trunk(self) -> None:
         """Both roles, in calls and without: what clients are answered, what is shown, also by the next watcher, and
         that all is as before at the end."""
@@ -250,31 +250,32 @@ class DrainedTrunkTests(unittest.TestCase):
         self.addCleanup(world.__exit__)
         aligned(world).exchange.pairs[2] = SEIZED
         call(world, 1)
-        self.assertEqual(world.ask('drain 1-4').splitlines(), [
-            'drain 1-4: blocked once their calls have ended: circuits 1-2', 'drain 1-4: done'])
+        self.assertEqual(world.ask('block 1-4').splitlines(), [
+            'block 1-4: blocking, until their calls have ended: circuits 1-2', 'block 1-4: done'])
         self.assertEqual(world.ask('seize 3'), f'seize 3: {BY_OPERATOR}')
-        self.assertEqual(world.ask('unblock 4'), f'unblock 4: {BY_OPERATOR}')
+        self.assertEqual(world.ask('unblock 4 auto'), f'unblock 4: {BY_OPERATOR}')
         os.kill(world.watcher(), signal.SIGKILL)        # (e1gw-trunk starts another one)
         world.connected()
-        support.until(lambda: [(row['state'], row['drain']) for row in world.told()['circuits'][:5]] == [
-            ('answered', 'drains'), ('acked', 'drains'), ('idle', 'drained'), ('blocked', 'drained'), ('idle', None)])
-        words = 'blocked by the operator: 3-4; blocked once their calls have ended: 1-2'
+        support.until(lambda: [(row['state'], row['blocked']) for row in world.told()['circuits'][:5]] == [
+            ('answered', 'blocking'), ('acked', 'blocking'), ('idle', 'blocked'), ('blocked', 'blocked'),
+            ('idle', None)])
+        words = 'blocked by the operator: 3-4; blocking, until their calls have ended: 1-2'
         self.assertIn(f'\n{words}\n', world.ask('status'))
         self.assertTrue(TrunkLine.of('west', world.told()).state.endswith(f'; {words}'))
         self.assertTrue(world.ask('status 3').endswith('\nblocked by the operator: 3'))
-        self.assertIn('e1gw_circuit_drain{circuit="1"} 1\n', exposition(world.told()))
-        self.assertEqual(json.loads(support.text_of(world.path('state.drains'))), [1, 2, 3, 4])
+        self.assertIn('e1gw_circuit_blocked{circuit="1"} 1\n', exposition(world.told()))
+        self.assertEqual(json.loads(support.text_of(world.path('state.blocked'))), [1, 2, 3, 4])
         events = world.follow()
         self.addCleanup(events.close)
         world.exchange.pairs[2] = IDLE
         world.until(lambda: world.state(2) == 'blocked')
-        self.assertEqual(world.ask('drain 1 now'), 'drain 1: done')
-        self.assertEqual(world.ask('drain 1-31'), 'drain 1-31: circuits are 1 to 30')
-        self.assertEqual(world.ask('undrain 1-4'), 'undrain 1-4: done')
+        self.assertEqual(world.ask('block 1 now'), 'block 1: done')
+        self.assertEqual(world.ask('block 1-31'), 'block 1-31: circuits are 1 to 30')
+        self.assertEqual(world.ask('unblock 1-4'), 'unblock 1-4: done')
         told = ((event.get('what', event['why'] if 'why' in event else ''), event['circuits'])
-                for event in map(json.loads, events) if event['event'] in ('drain', 'cleared'))
+                for event in map(json.loads, events) if event['event'] in ('block', 'cleared'))
         self.assertEqual([next(told) for _ in range(4)], [
-            ('drained', [2]), ('the operator blocks them', [1]), ('drained', [1]), ('over', [1, 2, 3, 4])])
-        self.assertEqual(world.ask('undrain 1-4'), 'undrain 1-4: not blocked')
+            ('blocked', [2]), ('the operator blocks them', [1]), ('blocked', [1]), ('unblocked', [1, 2, 3, 4])])
+        self.assertEqual(world.ask('unblock 1-4'), 'unblock 1-4: not blocked')
         world.until(lambda: {row['state'] for row in world.told()['circuits'][:4]} == {'idle'})
-        self.assertEqual({row['drain'] for row in world.told()['circuits']}, {None})
+        self.assertEqual({row['blocked'] for row in world.told()['circuits']}, {None})

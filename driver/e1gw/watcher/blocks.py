@@ -1,5 +1,5 @@
-"""Circuits that an operator takes out of service (e1gw-ctl NAME block, drain): each is blocked once its call has ended,
-and takes no other one. An incoming one then sends the blocking signal (ITU-T Q.421); an outgoing one is not seized from
+"""Circuits that an operator takes out of service (e1gw-ctl NAME block): each is blocked once its call has ended, and
+takes no other one. An incoming one then sends the blocking signal (ITU-T Q.421); an outgoing one is not seized from
 this end. What is done follows from the numbers of these circuits and from how the lines stand, and from nothing else:
 who takes over, here or at another machine, goes on from the numbers alone."""
 from __future__ import annotations
@@ -13,7 +13,7 @@ from dataclasses import dataclass, field
 from enum import Enum
 from typing import Any, Callable, Collection, Container, Coroutine, Iterable, Iterator, Mapping
 
-from ..events import CallsCleared, CircuitsDrained, DrainNews, Tell
+from ..events import BlockNews, CallsCleared, CircuitsBlocked, Tell
 from ..faults import words_of_fault
 from ..lines import IN_CALL, Line, Role, State, circuit_words
 from ..reports import TrunkState
@@ -28,76 +28,76 @@ BY_OPERATOR = 'blocked by the operator (e1gw-ctl NAME unblock)'
 logger = logging.getLogger(__name__)
 
 
-class Drain(Enum):
+class BlockStage(Enum):
     """How far it is with a circuit."""
 
     TAKEN = 'nobody has looked at its line'
     IN_CALL = 'its call goes on'
     IDLE = 'it is to be blocked at once'
-    DRAINED = 'it takes no call'
+    BLOCKED = 'it takes no call'
 
 
-News = dict[DrainNews, list[int]]
+News = dict[BlockNews, list[int]]
 
 
-def drain_of(line: Line) -> Drain:
+def stage_of(line: Line) -> BlockStage:
     """How far it is with a circuit whose line stands so. (A line in fault is no call, and sends what a blocked one
     sends; one that is being released begins none.)"""
     if line.state in IN_CALL:
-        return Drain.IN_CALL
-    return Drain.IDLE if line.role is Role.INCOMING and line.state is State.IDLE else Drain.DRAINED
+        return BlockStage.IN_CALL
+    return BlockStage.IDLE if line.role is Role.INCOMING and line.state is State.IDLE else BlockStage.BLOCKED
 
 
 @dataclass(frozen=True)
-class Drains:
+class Blocks:
     """The circuits that the operator has taken, and how far each is."""
 
-    circuits: Mapping[int, Drain] = field(default_factory=dict)
+    circuits: Mapping[int, BlockStage] = field(default_factory=dict)
 
-    def taken(self, circuits: Iterable[int]) -> Drains:
+    def taken(self, circuits: Iterable[int]) -> Blocks:
         """He takes these, too."""
-        return Drains({**dict.fromkeys(circuits, Drain.TAKEN), **self.circuits})
+        return Blocks({**dict.fromkeys(circuits, BlockStage.TAKEN), **self.circuits})
 
-    def given_back(self, circuits: Container[int]) -> Drains:
-        return Drains({n: its for n, its in self.circuits.items() if n not in circuits})
+    def given_back(self, circuits: Container[int]) -> Blocks:
+        return Blocks({n: its for n, its in self.circuits.items() if n not in circuits})
 
-    def only(self, circuits: Collection[int]) -> Drains:
+    def only(self, circuits: Collection[int]) -> Blocks:
         """He has taken these and no others: another machine says so."""
         return self.given_back({*CIRCUITS} - {*circuits}).taken(circuits)
 
-    def looked(self, lines: Mapping[int, Line], busy: Container[int]) -> tuple[Drains, list[int], News]:
+    def looked(self, lines: Mapping[int, Line], busy: Container[int]) -> tuple[Blocks, list[int], News]:
         """Which circuits are given a block, as the lines stand, and news. A `busy` one has a command under way."""
-        found = {n: before if n in busy else drain_of(lines[n]) for n, before in self.circuits.items()}
-        news: News = {what: [] for what in DrainNews}
+        found = {n: before if n in busy else stage_of(lines[n]) for n, before in self.circuits.items()}
+        news: News = {what: [] for what in BlockNews}
         for n, before in self.circuits.items():
-            if before is not found[n] is not Drain.IDLE:
-                in_call = DrainNews.SEIZED if before is Drain.IDLE else DrainNews.DRAINS
-                news[in_call if found[n] is Drain.IN_CALL else DrainNews.DRAINED].append(n)
-        return Drains(found), [n for n, now in found.items() if now is Drain.IDLE and n not in busy], news
+            if before is not found[n] is not BlockStage.IDLE:
+                in_call = BlockNews.SEIZED if before is BlockStage.IDLE else BlockNews.BLOCKING
+                news[in_call if found[n] is BlockStage.IN_CALL else BlockNews.BLOCKED].append(n)
+        return Blocks(found), [n for n, now in found.items() if now is BlockStage.IDLE and n not in busy], news
 
     def left(self, circuits: Iterable[int] = CIRCUITS) -> list[int]:
-        """Those of these circuits that are not drained yet."""
-        return [n for n in circuits if self.circuits.get(n, Drain.DRAINED) is not Drain.DRAINED]
+        """Those of these circuits that are not blocked yet."""
+        return [n for n in circuits if self.circuits.get(n, BlockStage.BLOCKED) is not BlockStage.BLOCKED]
 
     def word(self, circuit: int) -> str | None:
         """What a status says of a circuit; None of one in service."""
-        news = DrainNews.DRAINS if self.left([circuit]) else DrainNews.DRAINED
+        news = BlockNews.BLOCKING if self.left([circuit]) else BlockNews.BLOCKED
         return str(news) if circuit in self.circuits else None
 
 
-class KeptDrains:
+class KeptBlocks:
     """The same in a file, which is replaced whole. One that cannot be read or written is reported, and ends nothing."""
 
     def __init__(self, path: str) -> None:
-        self.now, self._path = Drains(), path
+        self.now, self._path = Blocks(), path
         self._writing: asyncio.Task[str] | None = None
         try:
             with suppress(FileNotFoundError), open(path, encoding='ascii') as file:
-                self.now = Drains().only({*CIRCUITS} & {*json.loads(file.read(4096))})
+                self.now = Blocks().only({*CIRCUITS} & {*json.loads(file.read(4096))})
         except (OSError, ValueError, TypeError) as fault:
             logger.error('which circuits the operator has blocked is not known: %s', words_of_fault(fault, path))
 
-    async def put(self, now: Drains) -> str:
+    async def put(self, now: Blocks) -> str:
         """This is so from now on. Why it is not kept; nothing if it is."""
         self.now = now
         if not self._writing or self._writing.done():
@@ -116,10 +116,10 @@ class KeptDrains:
         return ''
 
 
-class DrainWatch:
+class BlockWatch:
     """Sees to these circuits. `give` gives a command and returns its answer; `tell` reports."""
 
-    def __init__(self, kept: KeptDrains, lines: TrunkState, give: Callable[[int, Command], Coroutine[Any, Any, str]],
+    def __init__(self, kept: KeptBlocks, lines: TrunkState, give: Callable[[int, Command], Coroutine[Any, Any, str]],
                  tell: Tell) -> None:
         self.kept, self._state, self._give, self._tell = kept, lines, give, tell
         self._busy, self._blocks = Counter[int](), Tasks()
@@ -155,7 +155,7 @@ class DrainWatch:
     def _report(self, news: News) -> None:
         for what, circuits in news.items():
             if circuits:
-                self._tell(CircuitsDrained(what, tuple(circuits)))
+                self._tell(CircuitsBlocked(what, tuple(circuits)))
 
     def refusal(self, circuit: int, command: Command) -> str | None:
         """Why a client's command is refused, if it would have the circuit take calls."""
@@ -174,7 +174,7 @@ class DrainWatch:
             await asyncio.wait(self._blocks, timeout=PATIENCE)
         self.look()
         left = circuit_words(self.kept.now.left(circuits))
-        return [*told, *[f'blocked once their calls have ended: circuits {left}'] * bool(left), DONE]
+        return [*told, *[f'blocking, until their calls have ended: circuits {left}'] * bool(left), DONE]
 
     async def give_back(self, circuits: Collection[int]) -> list[str]:
         """The operator gives circuits back. What he is told."""
@@ -185,11 +185,11 @@ class DrainWatch:
         answers = dict(zip(blocked, await asyncio.gather(*(self._give(n, Command.UNBLOCK) for n in blocked))))
         faults = {n: answer for n, answer in answers.items() if answer not in (DONE, NOT_BLOCKED)}
         told = await self._kept(self.kept.now.taken(its & faults.keys())) if its else []
-        self._report({DrainNews.OVER: sorted(its - faults.keys())})
+        self._report({BlockNews.UNBLOCKED: sorted(its - faults.keys())})
         if faults:
             return [*told, f'circuits {circuit_words(faults)}: {next(iter(faults.values()))}']
         return [*told, DONE if its or blocked else NOT_BLOCKED]
 
-    async def _kept(self, now: Drains) -> list[str]:
+    async def _kept(self, now: Blocks) -> list[str]:
         fault = await self.kept.put(now)
         return [f'not kept: {fault}'] * bool(fault)

@@ -1,0 +1,66 @@
+"""Waits until circuits of trunks are in a state."""
+from __future__ import annotations
+
+import time
+from dataclasses import dataclass
+from typing import Any, Collection, Mapping
+
+from .ctl_all import status_of
+from .faults import words_of_fault
+from .lines import State, circuit_words
+from .metrics import states_of
+
+LOOK = 0.5                  # seconds between two looks
+LEFT = 3                    # the status if some circuits are not in the state
+STATES = [*map(str, State), 'blocking']
+Trunks = list[tuple[str, str]]
+
+
+@dataclass(frozen=True)
+class AwaitedState:
+    """The state in which circuits are to be."""
+
+    circuits: Collection[int]
+    state: str
+
+    def found(self, status: Mapping[str, Any]) -> tuple[bool, str]:
+        """Whether they are, and in which states those are that are not."""
+        if status.get('fault'):
+            return False, str(status['fault'])
+        rows = [row for row in status['circuits'] if row['circuit'] in self.circuits]
+        left = dict[str, list[int]]()
+        for row in rows:
+            if self.state not in states_of(row):
+                left.setdefault(row['state'], []).append(row['circuit'])
+        if left or not rows:
+            words = (f'{circuit_words(circuits)} {state}' for state, circuits in left.items())
+            return False, ', '.join(words) or 'it has no such circuit'
+        return True, f'{circuit_words(row["circuit"] for row in rows)} {self.state}'
+
+    def look(self, path: str, patience: float) -> tuple[bool, str]:
+        """The same of a trunk that is asked."""
+        try:
+            return self.found(status_of(path, patience))
+        except (OSError, ValueError, KeyError) as fault:
+            return False, f'it does not answer: {words_of_fault(fault, path)}'
+
+
+def wait(trunks: Trunks, awaited: AwaitedState, seconds: float | None, patience: float) -> int:
+    """Prints a line for each trunk whenever its states have changed, until all are as awaited, or the seconds are over;
+    returns the status."""
+    until, told = seconds is not None and time.monotonic() + seconds, dict[str, str]()
+    try:
+        while True:
+            found = {name: awaited.look(path, patience) for name, path in trunks}
+            for name, (_, words) in found.items():
+                if words != told.get(name):
+                    print(f'{time.strftime("%H:%M:%S", time.gmtime())} {name}: {words}', flush=True)
+                    told[name] = words
+            if all(is_so for is_so, _ in found.values()):
+                return 0
+            if until and time.monotonic() >= until:
+                print(f'not all are {awaited.state} after {seconds:g} s', flush=True)
+                return LEFT
+            time.sleep(LOOK)
+    except KeyboardInterrupt:
+        return LEFT
