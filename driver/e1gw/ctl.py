@@ -6,10 +6,12 @@ json, events, role, promote, demote, move, reload, quit, help. N may be several 
 
 block N takes circuits out of service once their calls have ended, or --now; unblock N takes that back. wait N STATE
 prints which circuits are not in this state until all are, or for --for SECONDS. calls lists those of the file of
---calls that --last, --circuit and --since select, and those that go on, each with the id that e1gw-call takes. outages
-lists those between --since and --until, by the file of --json. move NODE, as root, has Pacemaker move the trunk. With a
-PATH and no command, commands are read from standard input, a line each. --all gives the command to each trunk of this
-machine. Without any word there is a line for each trunk of this machine.
+--calls that --last, --circuit, --from and --to select, and those that go on, each with the id that e1gw-call takes, and
+sums. outages lists those between --from and --to, by the file of --json. move NODE, as root, has Pacemaker move the
+trunk. With a PATH and no command, commands are read from standard input, a line each. --all gives the command to each
+trunk of this machine. Without any word there is a line for each trunk of this machine.
+
+A time is 14:03, yesterday, 'yesterday 14:03' or 2026-11-23T07:30, in local time; calls are listed in local time, too.
 
 Statuses: 0 all was done; 1 a trunk refused something, or does not answer; 2 the command line, or nobody listens at
 PATH; 3 circuits are not in the state.
@@ -21,6 +23,7 @@ import os
 import socket
 import subprocess
 import sys
+import time
 from pathlib import Path
 from typing import BinaryIO
 
@@ -29,15 +32,15 @@ from .ctl_calls import OutageForm, Wanted, calls_listed, outages_listed
 from .ctl_wait import STATES, AwaitedState, wait
 from .faults import checked, number, words_of_fault
 from .session import CIRCUITS, circuit_of
-from .session_clock import second_of
+from .session_clock import local_second
 
 ASKING = ('status', 'events', 'help', 'metrics', 'role')
 SEVERAL = ('seize', 'clear', 'answer', 'clear-back', 'block', 'unblock', 'codec')
 AT_ONCE = ('block', 'unblock')          # .. of which the trunk takes several at once
 
 # The commands that have these options.
-OPTIONS = {'last': ('calls',), 'circuit': ('calls',), 'since': ('calls', 'outages'), 'until': ('outages',),
-           'csv': ('outages',), 'page': ('outages',), 'now': ('block',), 'for': ('wait',)}
+OPTIONS = {'last': ('calls',), 'circuit': ('calls',), 'from': ('calls', 'outages'), 'to': ('calls', 'outages'),
+           'csv': ('calls', 'outages'), 'page': ('outages',), 'now': ('block',), 'for': ('wait',)}
 
 
 def path_of(word: str) -> str:
@@ -136,12 +139,13 @@ def started(asked: argparse.Namespace, parser: argparse.ArgumentParser, patience
         if getattr(asked, option) is not None and not {*names} & {*command[:1]}:
             parser.error(f'--{option} is for {" and ".join(names)}')
     trunks = trunks_here() if asked.all else [(asked.path, path_of(asked.path))] if command else []
+    first, end = getattr(asked, 'from'), asked.to
     match command:
         case ['calls']:
-            return calls_listed(trunks, Wanted(asked.last, asked.circuit, asked.since), patience)
+            return calls_listed(trunks, Wanted(asked.last, asked.circuit, first, end), bool(asked.csv), patience)
         case ['outages']:
             form = OutageForm.PAGE if asked.page else OutageForm.CSV if asked.csv else OutageForm.TEXT
-            return outages_listed(trunks, asked.since, asked.until, form, patience)
+            return outages_listed(trunks, first, end, form, patience)
         case ['wait', *its]:
             circuits, state = {*map(circuit_of, circuits_of(its[0] if its else ''))}, ' '.join(its[1:])
             if 0 in circuits or state not in STATES:
@@ -184,14 +188,14 @@ def main(patience: float = PATIENCE) -> None:
                                      formatter_class=argparse.RawDescriptionHelpFormatter)
     parser.add_argument('--all', action='store_true', help='each trunk of this machine')
     parser.add_argument('--last', metavar='N', type=number(1, 10**6), help='calls: the last N [default: 20, or all '
-                        'with --since]')
+                        'with --from or --to]')
     parser.add_argument('--circuit', metavar='N', type=number(1, 30), help='calls: those of a circuit')
     parser.add_argument('--now', action='store_true', default=None, help='block: calls are cleared')
     parser.add_argument('--for', metavar='SECONDS', type=number(0, 10**6, float), help='wait: no longer than that')
-    time = checked(second_of, 'a time such as 2026-11-23T07:30:00Z')
-    parser.add_argument('--since', metavar='TIME', type=time, help='calls, outages: those that ended after TIME (UTC)')
-    parser.add_argument('--until', metavar='TIME', type=time, help='outages: those that began before TIME')
-    parser.add_argument('--csv', action='store_true', default=None, help='outages: as CSV')
+    when = checked(lambda text: local_second(text, time.time()), 'a time such as 14:03, yesterday or 2026-11-23T07:30')
+    parser.add_argument('--from', metavar='TIME', type=when, help='calls, outages: those that ended after TIME')
+    parser.add_argument('--to', metavar='TIME', type=when, help='calls, outages: those that began before TIME')
+    parser.add_argument('--csv', action='store_true', default=None, help='calls, outages: as CSV')
     parser.add_argument('--page', action='store_true', default=None, help='outages: as a page of HTML to print')
     for each in (parser.add_argument('path', metavar='PATH', nargs='?'),
                  parser.add_argument('command', metavar='COMMAND', nargs='*')):

@@ -41,6 +41,8 @@ class AwaitedState:
         """The same of a trunk that is asked."""
         try:
             return self.found(status_of(path, patience))
+        except (FileNotFoundError, ConnectionRefusedError):
+            return False, f'nobody listens at {path}'
         except (OSError, ValueError, KeyError) as fault:
             return False, f'it does not answer: {words_of_fault(fault, path)}'
 

@@ -4,7 +4,7 @@ from __future__ import annotations
 import bisect
 from collections.abc import Iterator, Mapping, Sequence
 from dataclasses import dataclass, replace
-from datetime import datetime, timezone
+from datetime import datetime, time, timedelta, timezone
 from functools import cached_property
 from itertools import accumulate
 from math import inf
@@ -24,6 +24,21 @@ def second_of(text: str) -> float:
         return float(text)
     when = datetime.fromisoformat(text)
     return (when if when.tzinfo else when.replace(tzinfo=timezone.utc)).timestamp()
+
+
+def local_second(text: str, now: float) -> float:
+    """Seconds since 1970 of 14:03 (today), yesterday, yesterday 14:03, or a date and time, in local time if it names no
+    zone. ValueError for others."""
+    match text.split():
+        case ['today' | 'yesterday' as day, *clocks] if len(clocks) < 2:
+            pass
+        case [clock] if ':' in clock[:3]:
+            day, clocks = 'today', [clock]
+        case _:
+            return datetime.fromisoformat(text).timestamp()
+    date = datetime.fromtimestamp(now).date() - timedelta(days=day == 'yesterday')
+    clock = clocks[0] if clocks else '00:00'
+    return datetime.combine(date, time.fromisoformat(clock if clock[1:2] != ':' else f'0{clock}')).timestamp()
 
 
 class Break(NamedTuple):

@@ -11,6 +11,7 @@ import shutil
 import sys
 import tempfile
 import threading
+import time
 import unittest
 from unittest import mock
 
@@ -181,7 +182,11 @@ class CtlAnswerTests(support.FolderCase):
 
     def test_calls(self) -> None:
         """Those that have ended, of a file and the one before it, whose last line may be torn, and then those that go
-        on; as many as are asked for."""
+        on; as many as are asked for, in local time, with sums below."""
+        self.enterContext(mock.patch.dict(os.environ, TZ='Asia/Kolkata'))
+        time.tzset()
+        self.addCleanup(time.tzset)
+        self.addCleanup(os.environ.pop, 'TZ')
         ended = [CallLine('west', str(n % 2 + 1), 'outgoing', f'2027-01-15T08:{n:02}:00.000Z', '',
                           f'2027-01-15T08:{n:02}:30.500Z', 'gateway', 'pcma', '1', '2', '3', '4', f'1f-{n % 2 + 1}-{n}')
                  for n in range(30)]
@@ -191,21 +196,27 @@ class CtlAnswerTests(support.FolderCase):
         self.trunks['west'].answers['status json'] = json.dumps(
             {'calls': [going._asdict()], 'calls_file': self.path('calls.csv')}) + '\n\n'
         for words, numbers in (('', range(10, 30)), ('--last 2', (28, 29)), ('--circuit 2 --last 2', (27, 29)),
-                               ('--since 2027-01-15T08:27:30.5Z', (27, 28, 29)), ('--since 2027-01-16', ()),
-                               ('--since 2027-01-15', range(30))):
+                               ('--from 2027-01-15T08:27:30.5Z', (27, 28, 29)), ('--from 2027-01-16', ()),
+                               ('--from 2027-01-15 --to 2027-01-15T13:31', (*range(2), None)),
+                               ('--from 2027-01-15', range(30))):
             status, told, _ = self.ctl('west', 'calls', *words.split())
-            names = [ended[n].call for n in numbers] + [going.call] * ('circuit' not in words)
-            self.assertEqual((status, [line.split()[-1] for line in told[1:]]), (0, names), words)
-        self.assertEqual(self.ctl('west', 'calls', '--last', '1')[1][:2], [
-            'trunk         n role     seized (UTC)            answered     ended        by               codec    '
+            goes = 'circuit' not in words and None not in numbers
+            names = [ended[n].call for n in numbers if n is not None] + [going.call] * goes
+            self.assertEqual((status, [line.split()[-1] for line in told[1:told.index('')]]), (0, names), words)
+        told = self.ctl('west', 'calls', '--last', '1', '--to', '2027-01-15T13:59:00')[1]
+        self.assertEqual(told, [
+            'trunk         n role     seized (IST)            answered     ended        by               codec    '
             '   sent received   lost   late  call',
-            'west          2 outgoing 2027-01-15 08:29:00.000              08:29:30.500 gateway          pcma     '
-            '      1        2      3      4  1f-2-29'])
+            'west          2 outgoing 2027-01-15 13:59:00.000              13:59:30.500 gateway          pcma     '
+            '      1        2      3      4  1f-2-29',
+            '', '1 calls, 0 answered: 0:00 on average, 0:00 in all; 1 at once at most'])
+        self.assertEqual(self.ctl('west', 'calls', '--last', '1', '--to', '2027-01-15T13:59', '--csv')[1], [
+            ','.join(FIELDS), csv_line(ended[29])])
         self.assertEqual(self.ctl('west', 'status', '--last', '2')[0], 2)
         self.trunks['east'].answers['status json'] = '{"calls": [], "calls_file": null}\n\n'
         status, told, _ = self.ctl('--all', 'calls', '--last', '1')
         self.assertEqual((status, told[1]), (1, 'east: it writes no --calls: there are no calls that have ended'))
-        self.assertEqual(len(told), 4)
+        self.assertEqual(len(told), 6)
 
     def looks(self, name: str, *looks: dict[int, str]) -> None:
         """At each look a trunk has circuits in these states; 9 is idle, and blocked by the operator."""
@@ -248,11 +259,11 @@ class CtlAnswerTests(support.FolderCase):
         """Of the file of a trunk; as text, as CSV, and as a page."""
         self.write('events', json.dumps({'time': 1.8e9, 'event': 'gap', 'seconds': 0.25, 'place': 7}) + '\n')
         self.trunks['west'].answers['status json'] = json.dumps({'events_file': self.path('events')}) + '\n\n'
-        self.assertEqual(self.ctl('west', 'outages', '--csv', '--since', '2027-01-15')[1], [
+        self.assertEqual(self.ctl('west', 'outages', '--csv', '--from', '2027-01-15')[1], [
             ','.join(FIELDS_OF_OUTAGES), 'west,slip,2027-01-15T07:59:59.750Z,2027-01-15T08:00:00.000Z,0.250,,'])
         self.assertEqual(self.ctl('west', 'outages')[1][1].split(), [
             'west', 'slip', '2027-01-15T07:59:59.750Z', '2027-01-15T08:00:00.000Z', '0.250'])
-        self.assertEqual(len(self.ctl('west', 'outages', '--until', '2027-01-15')[1]), 1)
+        self.assertEqual(len(self.ctl('west', 'outages', '--to', '2027-01-15')[1]), 1)
         page = '\n'.join(self.ctl('west', 'outages', '--page')[1])
         self.assertEqual(re.findall('<td>([^<]*)</td>', page), [
             'west', 'slip', '2027-01-15T07:59:59.750Z', '2027-01-15T08:00:00.000Z', '0.250', '', ''])
