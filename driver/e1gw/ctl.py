@@ -5,11 +5,12 @@ COMMAND is one of e1gw-watch(1): seize N, clear N, answer N, clear-back N, codec
 json, events, role, promote, demote, move, reload, quit, help. N may be several circuits: seize 1-4,7.
 
 block N takes circuits out of service once their calls have ended, or --now; unblock N takes that back. wait N STATE
-prints which circuits are not in this state until all are, or for --for SECONDS. calls lists those of the file of
---calls that --last, --circuit, --from and --to select, and those that go on, each with the id that e1gw-call takes, and
-sums. outages lists those between --from and --to, by the file of --json. move NODE, as root, has Pacemaker move the
-trunk. With a PATH and no command, commands are read from standard input, a line each. --all gives the command to each
-trunk of this machine. Without any word there is a line for each trunk of this machine.
+prints which circuits are not in this state until all are, or for --for SECONDS. why N says what e1gw-picture finds of a
+circuit in the last 30 s that were recorded. calls lists those of the file of --calls that --last, --circuit, --from and
+--to select, and those that go on, each with the id that e1gw-call takes, and sums. outages lists those between --from
+and --to, by the file of --json. move NODE, as root, has Pacemaker move the trunk. With a PATH and no command, commands
+are read from standard input, a line each. --all gives the command to each trunk of this machine. Without any word there
+is a line for each trunk of this machine.
 
 A time is 14:03, yesterday, 'yesterday 14:03' or 2026-11-23T07:30, in local time; calls are listed in local time, too.
 
@@ -127,17 +128,9 @@ def move(name: str, node: str) -> int:
     return max(subprocess.run(['crm_resource', '--resource', name, *words], check=False).returncode for words in steps)
 
 
-def started(asked: argparse.Namespace, parser: argparse.ArgumentParser, patience: float) -> int:
-    """What the words ask for."""
-    words = [asked.path] * bool(asked.path) + asked.command
-    if asked.path == '' or not all(word.strip() and word.isprintable() for word in asked.command):
-        parser.error('a word is empty, or cannot be printed')
-    if asked.all and (not words or words == ['events']):
-        parser.error('--all wants a command that is answered at once')
-    command = words[not asked.all:]
-    for option, names in OPTIONS.items():
-        if getattr(asked, option) is not None and not {*names} & {*command[:1]}:
-            parser.error(f'--{option} is for {" and ".join(names)}')
+def own_command(asked: argparse.Namespace, parser: argparse.ArgumentParser, command: list[str], patience: float
+                ) -> int | None:
+    """Does what e1gw-ctl does by itself, and returns the status; None of a command for a trunk."""
     trunks = trunks_here() if asked.all else [(asked.path, path_of(asked.path))] if command else []
     first, end = getattr(asked, 'from'), asked.to
     match command:
@@ -151,8 +144,29 @@ def started(asked: argparse.Namespace, parser: argparse.ArgumentParser, patience
             if 0 in circuits or state not in STATES:
                 parser.error(f'wait: wants circuits, 1 to 30, and a state: {", ".join(STATES)}')
             return wait(trunks, AwaitedState(circuits, state), getattr(asked, 'for'), patience)
+        case ['why', *its]:
+            if len(its) != 1 or not circuit_of(its[0]):
+                parser.error('why: wants a circuit, 1 to 30')
+            from .ctl_why import why        # (which takes a while to be read)
+            return why(trunks, circuit_of(its[0]), patience)
         case ['move', node] if not asked.all:
             return move(asked.path, node)
+    return None
+
+
+def started(asked: argparse.Namespace, parser: argparse.ArgumentParser, patience: float) -> int:
+    """What the words ask for."""
+    words = [asked.path] * bool(asked.path) + asked.command
+    if asked.path == '' or not all(word.strip() and word.isprintable() for word in asked.command):
+        parser.error('a word is empty, or cannot be printed')
+    if asked.all and (not words or words == ['events']):
+        parser.error('--all wants a command that is answered at once')
+    command = words[not asked.all:]
+    for option, names in OPTIONS.items():
+        if getattr(asked, option) is not None and not {*names} & {*command[:1]}:
+            parser.error(f'--{option} is for {" and ".join(names)}')
+    if (status := own_command(asked, parser, command, patience)) is not None:
+        return status
     command += ['now'] * bool(asked.now)
     if asked.all:
         return run_all(command, patience)
@@ -168,13 +182,13 @@ def next_words(parsed_args: argparse.Namespace, **_: object) -> list[str]:
         return [name for name, _ in trunks_here()]
     match words[not parsed_args.all:]:
         case []:
-            return [*SEVERAL, 'wait', 'status', 'calls', 'outages', 'events', 'role', 'promote', 'demote',
+            return [*SEVERAL, 'wait', 'why', 'status', 'calls', 'outages', 'events', 'role', 'promote', 'demote',
                     'move', 'reload', 'quit', 'help']
         case ['status']:
             return ['json', *circuits]
         case ['reload']:
             return ['force']
-        case [word] if word in (*SEVERAL, 'wait'):
+        case [word] if word in (*SEVERAL, 'wait', 'why'):
             return circuits
         case ['wait', _]:
             return STATES

@@ -255,6 +255,15 @@ class CtlAnswerTests(support.FolderCase):
         for line in 'status --for 3', 'wait 7', 'wait 7 unheard', 'wait 31 idle', 'wait':
             self.assertEqual(self.ctl('west', *line.split())[0], 2)
 
+    def test_why(self) -> None:
+        """Of one circuit; a trunk that records nothing, or has not yet, says so."""
+        for path, why in (None, 'west: it records nothing that could be looked at (--session)'), (
+                self.folder, f'west: {self.folder} holds no session (files of NAME.e1gw)'):
+            self.trunks['west'].answers['status json'] = json.dumps({'session_path': path}) + '\n\n'
+            self.assertEqual(self.ctl('west', 'why', '7'), (1, [why], ''))
+        for line in 'why', 'why 31', 'why 7 8':
+            self.assertEqual(self.ctl('west', *line.split())[0], 2)
+
     def test_outages(self) -> None:
         """Of the file of a trunk; as text, as CSV, and as a page."""
         self.write('events', json.dumps({'time': 1.8e9, 'event': 'gap', 'seconds': 0.25, 'place': 7}) + '\n')

@@ -6,6 +6,7 @@ import os
 import random
 import re
 from typing import Iterator
+from unittest import mock
 
 from . import support
 from .picture_made import MadeSession, PictureSender, coded, packets, page_of
@@ -14,6 +15,7 @@ from e1gw.session_files import kept
 from e1gw.picture.beginning import begin
 from e1gw.picture.facts import Facts
 from e1gw.picture.main import gathered
+from e1gw.picture.why import finding_lines, last_facts
 from e1gw.session import OCTETS_A_SECOND, Kind, trunk_record
 
 
@@ -151,3 +153,24 @@ class MidCallPictureTests(RingCase):
         self.assertIn('state 4 Sum at 0', said)
         self.assertNotIn('begins in the middle', said)      # it is read from its first piece on
         self.assertIn('1 connected before', page)
+
+
+class WhyTests(RingCase):
+    def test_why_of_one_circuit(self) -> None:
+        """What was wrong in the last seconds: a peer with another codec there, but not what was before, and nothing of
+        another circuit; one without faults."""
+        made = MadeSession(4.0, {n: {'prefill': 320} for n in (3, 4)})
+        for circuit in 3, 4:
+            made.call(circuit, 0.1, 3.8)
+        wrong, good = (PictureSender(3, 0.3, 1.0, kind=3), PictureSender(3, 2.2, 3.8, kind=0),
+                       PictureSender(4, 0.25, 3.8)), 'No fault found.'
+        self.keep(made.plus(*wrong), 1.0)
+        last = sorted(os.path.join(self.ring, name) for name in os.listdir(self.ring) if name.endswith('.e1gw'))[-1]
+        os.utime(last, (BEGIN + 4.0, BEGIN + 4.0))
+        with mock.patch.dict(os.environ, E1GW=self.program):
+            lines, others = ([*finding_lines(last_facts(self.ring, n, 1.8), n)] for n in (3, 4))
+        self.assertRegex(lines[0], r'^circuit 3, idle at the end, in the last (1\.\d+|2\.00) s up to \d\d:\d\d:04$')
+        self.assertRegex('\n'.join(lines[1:]), r'^circuit 3: (\d+) of \1 packets were discarded as PayloadType: type 0 '
+                         r'came, the circuit has 8\n    the sender has the other law')
+        self.assertEqual((good in lines, others[-1]), (False, good))
+        self.assertFalse([line for line in others if 'circuit 3' in line])

@@ -17,6 +17,7 @@ from .svg import Scale, duration
 RATE = 20_000               # parts in a million above which it is no difference of clocks
 SHORT = SECOND // 50        # a shorter alarm of the far end is a bit error
 MOST_SPANS = 6              # that one anomaly names
+NO_FAULT = 'No fault found.'
 # The usual cause of each kind, and what to do.
 CLOCKS = ('one clock for both, or a prefill that lasts for the longest call; `codec` with the codec that the circuit '
           'has resynchronises the jitter buffer')

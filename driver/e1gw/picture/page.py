@@ -13,7 +13,7 @@ from urllib.parse import quote
 from ..lines import OPEN, circuit_words
 from . import charts
 from .facts import SECOND, Cell, Facts, Row, joined
-from .findings import Anomaly, findings
+from .findings import NO_FAULT, Anomaly, findings
 from .sound import HeardSamples
 from .svg import Scale, duration
 
@@ -22,7 +22,7 @@ LISTED = 400                # rows of a table
 FEW = 6                     # anomalies that are printed with their causes
 PARTS, EACH = 24, 5         # of a call, at most, and seconds of each, at most if there are fewer
 MINOR = ('silent came', 'silent slot', 'blocked', 'command', 'unacknowledged', 'fault', 'none', 'port')
-FINE = '<p class="fine">No fault found.</p>'
+FINE = f'<p class="fine">{NO_FAULT}</p>'
 ARROW = ' \N{RIGHTWARDS ARROW} '
 with open(os.path.join(os.path.dirname(__file__), 'page.html'), encoding='utf-8') as template:
     PAGE = string.Template(template.read())

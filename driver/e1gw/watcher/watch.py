@@ -54,6 +54,7 @@ class WatchWants:
     http: tuple[str, int] | None = None
     json: str | None = None
     calls: str | None = None
+    session: str | None = None
     dark: float | None = None
     on_loss: list[str] = field(default_factory=lambda: ['keep'])
     picture: list[str] = field(default_factory=list)
@@ -221,17 +222,18 @@ class TrunkWatch:
 
     def _values(self) -> dict[str, Any]:
         """All that is known, as plain values."""
-        now, facts = time.time(), self.trunk.facts()
+        now, facts, wants = time.time(), self.trunk.facts(), self.wants
         fault = facts['fault'] or None
         status = self.status.values() | {
-            'name': self.wants.name, 'version': facts['version'], 'time': round(now, 3), 'fault': fault,
+            'name': wants.name, 'version': facts['version'], 'time': round(now, 3), 'fault': fault,
             'senders': facts['senders'], 'log_losses': facts['log_losses'],
             'uptime': 0.0 if fault else round(now - facts['since'], 3),
             'calls': [line._asdict() for line in self.status.calls.going()],
-            'calls_file': self.wants.calls and os.path.abspath(self.wants.calls),
-            'events_file': self.wants.json and os.path.abspath(self.wants.json) if self.wants.json != '-' else None,
+            'calls_file': wants.calls and os.path.abspath(wants.calls),
+            'events_file': wants.json and os.path.abspath(wants.json) if wants.json != '-' else None,
+            'session_path': wants.session and os.path.abspath(wants.session),
             'stale': self._counts.stale(), 'ended': self.ended | {'session': facts['session']},
-            'renewed': self._resyncs, 'alarms': self._events.alarms(), 'http': self.wants.http,
+            'renewed': self._resyncs, 'alarms': self._events.alarms(), 'http': wants.http,
             'commands': [{'command': name, 'answer': answer, 'count': n}
                          for (name, answer), n in sorted(self._done.items())]}
         status['clock'] = self.trunk.flow() | status['clock']

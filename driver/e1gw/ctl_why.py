@@ -1,0 +1,21 @@
+"""What is wrong with a circuit of each trunk, by what it has recorded."""
+from __future__ import annotations
+
+from typing import Any, Iterable, Mapping
+
+from .ctl_all import each_status
+from .picture.why import finding_lines, last_facts
+from .session_files import InputError
+
+
+def why(trunks: Iterable[tuple[str, str]], circuit: int, patience: float) -> int:
+    """Prints it; returns the status."""
+    def looks(_: str, told: Mapping[str, Any]) -> None:
+        if not (path := told['session_path']):
+            raise ValueError('it records nothing that could be looked at (--session)')
+        try:
+            facts = last_facts(path, circuit)
+        except InputError as fault:
+            raise ValueError(str(fault)) from None
+        print('\n'.join(finding_lines(facts, circuit)), flush=True)
+    return each_status(trunks, patience, looks)
