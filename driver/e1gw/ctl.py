@@ -8,9 +8,10 @@ block N takes circuits out of service once their calls have ended, or --now; unb
 prints which circuits are not in this state until all are, or for --for SECONDS. why N says what e1gw-picture finds of a
 circuit in the last 30 s that were recorded. calls lists those of the file of --calls that --last, --circuit, --from and
 --to select, and those that go on, each with the id that e1gw-call takes, and sums. outages lists those between --from
-and --to, by the file of --json. move NODE, as root, has Pacemaker move the trunk. With a PATH and no command, commands
-are read from standard input, a line each. --all gives the command to each trunk of this machine. Without any word there
-is a line for each trunk of this machine.
+and --to, by the file of --json. report FILE writes a tar with version, status, options, journal and the last calls, and
+--no-addresses other words for hosts. move NODE, as root, has Pacemaker move the trunk. With a PATH and no command,
+commands are read from standard input, a line each. --all gives the command to each trunk of this machine. Without any
+word there is a line for each trunk of this machine.
 
 A time is 14:03, yesterday, 'yesterday 14:03' or 2026-11-23T07:30, in local time; calls are listed in local time, too.
 
@@ -41,7 +42,8 @@ AT_ONCE = ('block', 'unblock')          # .. of which the trunk takes several at
 
 # The commands that have these options.
 OPTIONS = {'last': ('calls',), 'circuit': ('calls',), 'from': ('calls', 'outages'), 'to': ('calls', 'outages'),
-           'csv': ('calls', 'outages'), 'page': ('outages',), 'now': ('block',), 'for': ('wait',)}
+           'csv': ('calls', 'outages'), 'page': ('outages',), 'now': ('block',), 'for': ('wait',),
+           'no-addresses': ('report',)}
 
 
 def path_of(word: str) -> str:
@@ -149,6 +151,11 @@ def own_command(asked: argparse.Namespace, parser: argparse.ArgumentParser, comm
                 parser.error('why: wants a circuit, 1 to 30')
             from .ctl_why import why        # (which takes a while to be read)
             return why(trunks, circuit_of(its[0]), patience)
+        case ['report', *its] if not asked.all:
+            if len(its) != 1:
+                parser.error('report: wants a file')
+            from .ctl_report import report
+            return report(asked.path, path_of(asked.path), its[0], bool(asked.no_addresses), patience)
         case ['move', node] if not asked.all:
             return move(asked.path, node)
     return None
@@ -163,7 +170,7 @@ def started(asked: argparse.Namespace, parser: argparse.ArgumentParser, patience
         parser.error('--all wants a command that is answered at once')
     command = words[not asked.all:]
     for option, names in OPTIONS.items():
-        if getattr(asked, option) is not None and not {*names} & {*command[:1]}:
+        if getattr(asked, option.replace('-', '_')) is not None and not {*names} & {*command[:1]}:
             parser.error(f'--{option} is for {" and ".join(names)}')
     if (status := own_command(asked, parser, command, patience)) is not None:
         return status
@@ -182,8 +189,8 @@ def next_words(parsed_args: argparse.Namespace, **_: object) -> list[str]:
         return [name for name, _ in trunks_here()]
     match words[not parsed_args.all:]:
         case []:
-            return [*SEVERAL, 'wait', 'why', 'status', 'calls', 'outages', 'events', 'role', 'promote', 'demote',
-                    'move', 'reload', 'quit', 'help']
+            return [*SEVERAL, 'wait', 'why', 'report', 'status', 'calls', 'outages', 'events', 'role', 'promote',
+                    'demote', 'move', 'reload', 'quit', 'help']
         case ['status']:
             return ['json', *circuits]
         case ['reload']:
@@ -205,6 +212,7 @@ def main(patience: float = PATIENCE) -> None:
                         'with --from or --to]')
     parser.add_argument('--circuit', metavar='N', type=number(1, 30), help='calls: those of a circuit')
     parser.add_argument('--now', action='store_true', default=None, help='block: calls are cleared')
+    parser.add_argument('--no-addresses', action='store_true', default=None, help='report: hosts are other words')
     parser.add_argument('--for', metavar='SECONDS', type=number(0, 10**6, float), help='wait: no longer than that')
     when = checked(lambda text: local_second(text, time.time()), 'a time such as 14:03, yesterday or 2026-11-23T07:30')
     parser.add_argument('--from', metavar='TIME', type=when, help='calls, outages: those that ended after TIME')

@@ -105,7 +105,7 @@ class PagesTests(unittest.TestCase):
         text = page('e1gw-watch.1').split('.Sh COMMANDS')[1].split('.Sh FILES')[0]
         named = {word for line in re.findall(r'^\.It Ic .*', text, re.M) for word in re.findall(r'Ic ([\w-]+)', line)}
         self.assertEqual(named, commands)
-        own = {'calls', 'outages', 'wait', 'why'}               # (of e1gw-ctl itself)
+        own = {'calls', 'outages', 'wait', 'why', 'report'}               # (of e1gw-ctl itself)
         self.assertEqual({*offered('trunk1')}, commands - {'on-loss'} | own)
         self.assertEqual({word for word in commands if word in (control.__doc__ or '')}, commands - {'on-loss'})
 

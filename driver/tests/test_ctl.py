@@ -9,6 +9,7 @@ import os
 import re
 import shutil
 import sys
+import tarfile
 import tempfile
 import threading
 import time
@@ -263,6 +264,40 @@ class CtlAnswerTests(support.FolderCase):
             self.assertEqual(self.ctl('west', 'why', '7'), (1, [why], ''))
         for line in 'why', 'why 31', 'why 7 8':
             self.assertEqual(self.ctl('west', *line.split())[0], 2)
+
+    def test_report(self) -> None:
+        """A new file has what is known, also of a trunk that does not answer; without addresses if that is asked."""
+        for folder in 'bin', 'etc':
+            os.mkdir(self.path(folder))
+        self.write('bin/journalctl', '#!/bin/sh\necho "$*" from 192.0.2.7:24002\n')
+        os.chmod(self.path('bin/journalctl'), 0o755)
+        self.write('etc/west.options', 'TRUNK="--satop box.example:5000,192.0.2.7:5000"\n')
+        self.write('calls.csv', csv_line(['west', '1', *[''] * 11]) + '\n')
+        status = json.dumps(STATUS | {'calls_file': self.path('calls.csv')})
+        self.trunks['west'].answers['status json'] = f'{status}\n\n'
+        self.enterContext(mock.patch.dict(os.environ, PATH=self.path('bin')))
+        self.enterContext(mock.patch('e1gw.ctl_report.UNITS', self.path('etc')))
+
+        def parts(file: str, *words: str) -> dict[str, str]:
+            status, told, _ = self.ctl('west', 'report', self.path(file), *words)
+            with tarfile.open(self.path(file)) as tar:
+                its = {each.name.partition('/')[2]: tar.extractfile(each) for each in tar}
+                texts = {name: part.read().decode() for name, part in its.items() if part}
+            self.assertEqual((status, told), (0, [f'{self.path(file)}: {", ".join(texts)}']))
+            return texts
+        shown = parts('shown.tar')
+        self.assertEqual([*shown], ['about', 'status.json', 'status', 'calls.csv', 'west.options', 'journal'])
+        self.assertRegex(shown['about'], '^e1gw [0-9.]+, trunk west, ')
+        self.assertEqual(json.loads(shown['status.json'])['version'], '1.2')
+        self.assertEqual(shown['calls.csv'].splitlines(), [','.join(FIELDS), 'west,1,,,,,,,,,,,'])
+        self.assertRegex(shown['journal'], '-u e1gw-trunk@west -u e1gw-watch@west .* from 192.0.2.7:24002')
+        hidden = parts('hidden.tar', '--no-addresses')
+        both = hidden['west.options'] + hidden['journal']
+        self.assertRegex(both, '(?s)--satop host1:5000,host2:5000.* from host2:24002')
+        self.assertEqual(os.stat(self.path('hidden.tar')).st_mode & 0o777, 0o600)
+        self.trunks['west'].answers = {'status json': '[]\n\n'}
+        self.assertRegex(parts('dead.tar')['status'], 'it does not answer: ')
+        self.assertEqual((self.ctl('west', 'report', self.path('dead.tar'))[0], self.ctl('west', 'report')[0]), (2, 2))
 
     def test_outages(self) -> None:
         """Of the file of a trunk; as text, as CSV, and as a page."""

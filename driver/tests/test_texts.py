@@ -12,6 +12,7 @@ from unittest import mock
 
 from . import support
 from e1gw import ctl_all, metrics
+from e1gw.addresses import HiddenAddresses
 from e1gw.events import (AlarmChanged, BlockNews, Burst, CallsCleared, CardAlarm, CardAlarmChanged, CircuitsBlocked,
                          Connected, Crc4Change, Crc4Changed, Disconnected, Event, Fed, Flows, LineChanged, NotFed,
                          RateChanged, RemoteAlarmChanged, RoleGiven, SatopChanged, Slip, SlotsChange, SlotsChanged,
@@ -217,6 +218,20 @@ class TrunkTextTests(unittest.TestCase):
                  'not fed'))
         for more, line in rows:
             self.assertEqual(str(ctl_all.TrunkLine.of('west', STATUS | more)), line)
+
+
+class HiddenAddressTests(unittest.TestCase):
+    def test_addresses(self) -> None:
+        """Each is one word wherever it stands, but for those of this machine; times, versions and words stay."""
+        hidden = HiddenAddresses()
+        hidden.find_names(['peer_host = "pbx.example"\nhost = "192.0.2.1"', '--feed east.example:7401 localhost:1'])
+        for text, without in (
+                ('192.0.2.1:5060, 192.0.2.1.', 'host3:5060, host3.'),
+                ('pbx.example, mypbx.example', 'host1, mypbx.example'),
+                ('[2001:db8::7]:5060', '[host4]:5060'), ('from 2001:db8::7: no', 'from host4: no'),
+                ('east.example:7401', 'host2:7401'), ('127.0.0.1:9101 ::1 0.0.0.0', '127.0.0.1:9101 ::1 0.0.0.0'),
+                ('14:03:22 1.2.3 face a::bad_word std::c', '14:03:22 1.2.3 face a::bad_word std::c')):
+            self.assertEqual(hidden.without(text), without)
 
 
 class EventAndFaultTextTests(unittest.TestCase):
