@@ -17,7 +17,7 @@ from .lines import IN_CALL, Line, Role, State
 MOST_OCTETS = 10 << 20      # of a file, before it is FILE.1
 KEPT = 9                    # FILE.1 to FILE.9
 LAST = 1 << 20              # octets of it, which have the lines of seconds
-EACH = ('sent', 'admitted', 'lost', 'Late')     # what is counted, by the words of the counts
+EACH = 'sent', 'admitted', 'lost', 'Late', 'discarded'      # what is counted, by the words of the counts
 
 
 class CallLine(NamedTuple):
@@ -35,9 +35,12 @@ class CallLine(NamedTuple):
     lost: str
     late: str
     call: str
+    discarded: str = ''
+    cause: str = ''
 
 
 FIELDS = CallLine._fields
+FEWEST = len(FIELDS) - len(CallLine._field_defaults)    # of a line of an older version
 
 
 def files_of(path: str) -> list[str]:
@@ -50,8 +53,8 @@ def read_calls(path: str, word: str = '') -> Iterator[CallLine]:
     for each in files_of(path):
         with open(each, encoding='utf-8', errors='replace', newline='') as file:
             lines = [line for line in file if word in line and line.endswith('\n')]
-        rows = [row for row in csv.reader(lines) if len(row) == len(FIELDS) and row[1].isdecimal()]
-        yield from (CallLine(*row) for row in reversed(rows))
+        rows = [row for row in csv.reader(lines) if len(row) >= FEWEST and row[1].isdecimal()]
+        yield from (CallLine(*row[:len(FIELDS)]) for row in reversed(rows))
 
 
 def has_line(path: str, line: str) -> bool:
@@ -95,6 +98,7 @@ class CallRecord:
     codec: str = ''
     number: int = 0             # how many calls its line had with it
     counts: dict[str, int] | None = None    # those that were known of its circuit when nobody told any more
+    cause: str = ''             # of its first discard, as far as it was known then
 
 
 @dataclass(frozen=True)
@@ -149,6 +153,7 @@ class CallLog:
 
     def _begin(self, circuit: int, seized: float | None) -> None:
         line = self._lines[circuit]
+        self._counts.circuits[circuit].cause = ''
         self._calls[circuit] = CallRecord(circuit, seized, line.unacknowledged,
                                           number=line.seizures if seized is not None else 0)
 
@@ -161,7 +166,7 @@ class CallLog:
             if call and (line.state not in IN_CALL or 0 < call.number < line.seizures):
                 self._end(call, self._unwatched(call))          # (of the watcher before this one)
             elif call:
-                call.number = call.number or line.seizures
+                call.number, call.counts = call.number or line.seizures, None
             if line.state in IN_CALL and n not in self._calls:
                 self._begin(n, None)
                 self._calls[n].answered = self._clock() if line.state is State.ANSWERED else None
@@ -176,7 +181,7 @@ class CallLog:
     def left(self) -> None:
         """Nobody tells any more."""
         for n, call in self._calls.items():
-            call.codec, call.counts = self._lines[n].codec, self._now(n)
+            call.codec, call.counts, call.cause = self._lines[n].codec, self._now(n), self._cause(call)
 
     def _unwatched(self, call: CallRecord) -> str:
         """Who ended a call while nobody told: a reload begins a circuit that is configured otherwise as new."""
@@ -211,7 +216,8 @@ class CallLog:
     def note(self, place: int, at: float, waiting: Iterable[str]) -> CallsNote:
         """What another service goes on with; changes were told up to this place at that time, and these lines wait."""
         states = {n: (str(line.state), line.seizures, line.since) for n, line in self._lines.items()}
-        return CallsNote(place, at, states, (*self._calls.values(),), self._before, (*waiting, *self.lines))
+        calls = (*(replace(call, cause=self._cause(call)) for call in self._calls.values()),)
+        return CallsNote(place, at, states, calls, self._before, (*waiting, *self.lines))
 
     def take_up(self, note: CallsNote) -> None:
         """Goes on with the calls that another service has noted."""
@@ -229,7 +235,11 @@ class CallLog:
 
     def _now(self, circuit: int) -> dict[str, int]:
         counts = self._counts.circuits[circuit]
-        return {**counts.counts(), 'lost': counts.stream.lost}
+        return {**counts.counts(), 'lost': counts.stream.lost, 'discarded': counts.discarded()}
+
+    def _cause(self, call: CallRecord) -> str:
+        """Why the first packet of a call was discarded, if one was."""
+        return call.cause or self._counts.circuits[call.circuit].cause
 
     def _line(self, call: CallRecord, now: Mapping[str, int]) -> CallLine:
         before = self._before.get(call.circuit, {})
@@ -237,6 +247,9 @@ class CallLog:
         numbers = [max(0, (call.counts or now).get(word, 0) - before.get(word, 0)) for word in EACH]
         told = [''] * len(EACH) if self._counts.stale() and not call.counts else [*map(str, numbers)]
         if call.by == 'unwatched':
-            told[2:] = ['', '']     # of its last packets nobody has told more
+            told[2:] = [''] * 3     # of its last packets nobody has told more
+        *packets, discarded = told
+        cause = self._cause(call) if discarded not in ('', '0') else ''
         return CallLine._make((self._trunk, str(call.circuit), str(self._lines[call.circuit].role), moment(call.seized),
-                               moment(call.answered), moment(call.ended), call.by, call.codec, *told, self._id(call)))
+                               moment(call.answered), moment(call.ended), call.by, call.codec, *packets, self._id(call),
+                               discarded, cause))

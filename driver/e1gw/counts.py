@@ -9,6 +9,7 @@ from .session import CIRCUITS, DatagramRefusal
 
 REASONS = (*DatagramRefusal,)       # why datagrams are refused, in the order of a line `counts` (e1gw-tell(5))
 NONE_REFUSED = (0,) * len(REASONS)
+NOT_OPEN = REASONS.index(DatagramRefusal.NOT_OPEN)
 SAMPLES = 8                         # in a millisecond
 
 
@@ -42,6 +43,7 @@ class CircuitCounts:
     settled: int = 0            # .. when all was of one moment last
     before: ToldCounts = ToldCounts()       # of the sessions before this one
     told: ToldCounts = ToldCounts()         # of this session
+    cause: str = ''             # of the first discard of its call, if one was told
 
     @property
     def stream(self) -> ToldCounts:
@@ -53,6 +55,10 @@ class CircuitCounts:
         if self.refused < max(self.settled, sum(self.stream.refused)):
             self.before = replace(self.before, refused=NONE_REFUSED)    # (they were of another gateway)
         self.settled = self.refused
+
+    def discarded(self) -> int:
+        """How many were refused that came while speech went through."""
+        return sum(self.stream.refused) - self.stream.refused[NOT_OPEN]
 
     def counts(self) -> dict[str, int]:
         """How many were sent, admitted and refused, by the reason."""
@@ -88,6 +94,7 @@ class DatagramCounts:
             its, told = known.circuits[n].stream, row.told
             row.before = ToldCounts(its.accepted - told.accepted, its.lost - told.lost, 0,
                                     tuple(map(sub, its.refused, told.refused)))
+            row.cause = known.circuits[n].cause
 
     def take(self, circuit: int, told: ToldCounts) -> None:
         """What a session has counted for a circuit up to now, of which nothing is known one by one."""
@@ -95,13 +102,15 @@ class DatagramCounts:
 
     def count(self, circuit: int, told: ToldCounts, place: int) -> None:
         """What a session has counted for a circuit up to this place of the trunk."""
-        before = self.circuits[circuit].told
+        row = self.circuits[circuit]
+        before = row.told
         self.take(circuit, told)
         if told.accepted > before.accepted:
             self._counted(circuit, 0, place, told.accepted - before.accepted)
         if told.refused != before.refused:
             for code, more in zip(REASONS, map(sub, told.refused, before.refused)):
                 if more > 0:
+                    row.cause = row.cause or code.label * (code is not DatagramRefusal.NOT_OPEN)
                     self._counted(circuit, int(code), place, more)
 
     def status(self, circuit: int) -> dict[str, Any]:

@@ -9,6 +9,7 @@ import time
 from contextlib import suppress
 from typing import Any, BinaryIO, Callable, Iterable, Iterator, Mapping, NamedTuple
 
+from .deaf import words_of_rows
 from .events import REMOTE
 from .faults import words_of_fault
 from .metrics import block_words, state_of
@@ -118,7 +119,7 @@ class TrunkLine(NamedTuple):
         alarms = f'; the other end: {", ".join(REMOTE[what] for what in far)}' if far and status['trunk_up'] else ''
         ended = [what for what, why in status['ended'].items() if why is not None]
         told = (f'; ended: {", ".join(ended)}' if ended else '') + ('; not fed' if status.get('fed') is False else '')
-        told += f'; {blocks}' if (blocks := block_words(rows)) else ''
+        told += ''.join(f'; {words}' for words in (words_of_rows(rows), block_words(rows)) if words)
         late = sum(row['datagrams'].get('Late', 0) for row in rows)
         return cls(name, status['version'], since, str(sum(row['state'] == 'answered' for row in rows)),
                    str(sum(row['lost'] for row in rows)), str(late), f'{state_of(status)}{alarms}{told}')

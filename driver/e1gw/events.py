@@ -177,6 +177,22 @@ class CallsCleared(CircuitsChanged):
     name, text = 'cleared', 'calls cleared, {0.why}: circuits {0.numbers}'
 
 
+@dataclass(frozen=True)
+class CallsDeaf(Event):
+    """Answered calls hear nothing, or no longer do so."""
+
+    name = 'deaf'
+    on: bool
+    circuits: tuple[int, ...]
+    cause: str | None = None
+
+    def level(self) -> Level:
+        return Level.WARNING if self.on else Level.NOTICE
+
+    def words(self) -> str:
+        return f'circuits {circuit_words(self.circuits)} hear nothing: {self.cause if self.on else "over"}'
+
+
 class BlockNews(StrEnum):
     """What becomes of circuits that the operator blocks."""
 

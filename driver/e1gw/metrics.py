@@ -4,6 +4,7 @@ from __future__ import annotations
 import time
 from typing import Any, Iterable, Mapping
 
+from . import deaf
 from .dahdi import COUNTS, Alarm
 from .events import LOSSES, REMOTE
 from .lines import State, circuit_words
@@ -116,6 +117,8 @@ def _of_circuits(status: Status) -> list[Family]:
           for state in State]),
         ('e1gw_circuit_blocked', '1 if the operator has blocked the circuit, also while its call lasts.',
          [(labels, row['blocked'] is not None) for labels, row in rows]),
+        ('e1gw_circuit_deaf', '1 if an answered call has accepted no packet for 2 s.',
+         [(labels, row['deaf'] is not None) for labels, row in rows]),
         *((name, about, [(labels, row[key] if unit == 1 else round(row[key] / unit, 6)) for labels, row in rows])
           for name, about, key, unit in CIRCUIT_NUMBERS),
         ('e1gw_rtp_packets_total', 'RTP packets sent, and received and not discarded.',
@@ -171,7 +174,7 @@ def head_of(status: Status) -> list[str]:
         'alignment lost: ' + ', '.join(f'{what} {n}' for what, n in status['losses'].items())
         + f'; stalls {clock["stalls"]}{_slips(clock)}']
     lines += _pair_line(status) + _card_line(status) + _crc4_line(status)
-    lines += filter(None, [block_words(status['circuits'])])
+    lines += filter(None, [deaf.words_of_rows(status['circuits']), block_words(status['circuits'])])
     lines += [f'ended: {what}: {why}' for what, why in status['ended'].items() if why is not None]
     if status['stale']:
         lines.append('the counts of packets are not those of now')
@@ -235,7 +238,7 @@ def _crc4_line(status: Status) -> list[str]:
 def _row(status: Status, row: Mapping[str, Any]) -> str:
     counts, state = dict(row['datagrams']), NOT_OPEN if status.get('fault') else states_of(row)[-1]
     sent, received = counts.pop('sent'), counts.pop('admitted')
-    discarded = ', '.join(f'{n} {why}' for why, n in counts.items())
+    discarded = '; '.join(filter(None, [', '.join(f'{n} {why}' for why, n in counts.items()), deaf.words_of_row(row)]))
     return (f'{row["circuit"]:2} {row["role"]:8} {state:11} {row["sent"]:4} {row["recognised"]:3} '
             f'{row["for"]:9.1f} {row["seizures"]:6} {row["answers"]:8} {row["open"]:9.1f}  {row["codec"]:7} '
             f'{row["jitter_buffer_ms"]:6g} {sent:9} {received:9} {row["lost"]:5} {row["jitter_ms"]:7.1f}  '

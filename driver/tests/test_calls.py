@@ -26,7 +26,7 @@ class CallEndTests(unittest.TestCase):
         self.assertEqual(rows, [])                  # (they are noted first)
         calls.give()
         self.assertEqual(rows, ['west,1,outgoing,2001-09-09T01:46:40.000Z,,2001-09-09T01:46:41.999Z,not acknowledged,'
-                                'pcma,0,0,0,0,-1-0'])
+                                'pcma,0,0,0,0,-1-0,0,'])
 
     def test_another_gateway(self) -> None:
         before = {'sent': 5, 'admitted': 0, 'Late': 1}
@@ -67,7 +67,7 @@ class CalledTrunk:
 
     def numbers(self, n: int) -> list[int]:
         its = self.counts.circuits[n]
-        return [its.sent, its.admitted, its.stream.lost, its.counts().get('Late', 0)]
+        return [its.sent, its.admitted, its.stream.lost, its.counts().get('Late', 0), its.discarded()]
 
     def put(self, line: str) -> None:
         row = dict(zip(FIELDS, next(csv.reader([line]))))
@@ -75,10 +75,10 @@ class CalledTrunk:
         found = self.before[n] if by == 'reload' else self.numbers(n)
         told = [str(max(0, new - old)) for new, old in zip(found, self.since[n])]
         if by != 'reload' and self.counts.ended:
-            told = [''] * 4
-        told[2:] = ['', ''] if by == 'unwatched' else told[2:]
+            told = [''] * 5
+        told[2:] = [''] * 3 if by == 'unwatched' else told[2:]
         self.since[n] = self.numbers(n)
-        assert row == {**self.wanted.pop(0), **dict(zip(FIELDS[8:12], told))}, (row, told)
+        assert row == {**self.wanted.pop(0), **dict(zip((*FIELDS[8:12], 'discarded'), told)), 'cause': ''}, (row, told)
 
     def begins(self, n: int, seized: str) -> None:
         line = self.lines[n]

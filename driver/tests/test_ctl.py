@@ -207,7 +207,7 @@ class CtlAnswerTests(support.FolderCase):
         told = self.ctl('west', 'calls', '--last', '1', '--to', '2027-01-15T13:59:00')[1]
         self.assertEqual(told, [
             'trunk         n role     seized (IST)            answered     ended        by               codec    '
-            '   sent received   lost   late  call',
+            '   sent received   lost   late  call             discarded',
             'west          2 outgoing 2027-01-15 13:59:00.000              13:59:30.500 gateway          pcma     '
             '      1        2      3      4  1f-2-29',
             '', '1 calls, 0 answered: 0:00 on average, 0:00 in all; 1 at once at most'])
@@ -272,7 +272,8 @@ class CtlAnswerTests(support.FolderCase):
         self.write('bin/journalctl', '#!/bin/sh\necho "$*" from 192.0.2.7:24002\n')
         os.chmod(self.path('bin/journalctl'), 0o755)
         self.write('etc/west.options', 'TRUNK="--satop box.example:5000,192.0.2.7:5000"\n')
-        self.write('calls.csv', csv_line(['west', '1', *[''] * 11]) + '\n')
+        line = csv_line(['west', '1', *[''] * (len(FIELDS) - 2)])
+        self.write('calls.csv', f'{line}\n')
         status = json.dumps(STATUS | {'calls_file': self.path('calls.csv')})
         self.trunks['west'].answers['status json'] = f'{status}\n\n'
         self.enterContext(mock.patch.dict(os.environ, PATH=self.path('bin')))
@@ -289,7 +290,7 @@ class CtlAnswerTests(support.FolderCase):
         self.assertEqual([*shown], ['about', 'status.json', 'status', 'calls.csv', 'west.options', 'journal'])
         self.assertRegex(shown['about'], '^e1gw [0-9.]+, trunk west, ')
         self.assertEqual(json.loads(shown['status.json'])['version'], '1.2')
-        self.assertEqual(shown['calls.csv'].splitlines(), [','.join(FIELDS), 'west,1,,,,,,,,,,,'])
+        self.assertEqual(shown['calls.csv'].splitlines(), [','.join(FIELDS), line])
         self.assertRegex(shown['journal'], '-u e1gw-trunk@west -u e1gw-watch@west .* from 192.0.2.7:24002')
         hidden = parts('hidden.tar', '--no-addresses')
         both = hidden['west.options'] + hidden['journal']

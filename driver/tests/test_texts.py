@@ -28,7 +28,7 @@ ROW: dict[str, Any] = {
     'circuit': 7, 'role': 'incoming', 'state': 'answered', 'sent': '01', 'recognised': '00', 'for': 12.34,
     'seizures': 5, 'answers': 4, 'unacknowledged': 3, 'faults': 2, 'open': 67.89, 'codec': 'g726-32',
     'jitter_buffer_ms': 40.0, 'datagrams': {'sent': 101, 'admitted': 102, 'Late': 6, 'Full': 8}, 'lost': 9,
-    'jitter_ms': 1.2344, 'blocked': None,
+    'jitter_ms': 1.2344, 'blocked': None, 'deaf': None,
     'socket': {'waiting': 13, 'dropped': 14}}
 IDLE: dict[str, Any] = ROW | {'circuit': 8, 'state': 'idle', 'datagrams': {'sent': 0, 'admitted': 0}, 'socket': None}
 # (86,400 s and some: 1970-01-02 00:01:40 UTC)
@@ -74,6 +74,7 @@ e1gw_crc4_alignment_losses_total 35
 e1gw_circuit_state{circuit="7",role="incoming",state="answered"} 1
 e1gw_circuit_state{circuit="8",role="incoming",state="idle"} 1
 e1gw_circuit_blocked{circuit="7"} 0
+e1gw_circuit_deaf{circuit="7"} 0
 e1gw_circuit_seizures_total{circuit="7"} 5
 e1gw_circuit_answers_total{circuit="7"} 4
 e1gw_circuit_unacknowledged_total{circuit="7"} 3

@@ -24,11 +24,22 @@ logger = logging.getLogger(__name__)
 
 class LineFile(logging.handlers.RotatingFileHandler):
     """A file that is appended to: ten files of 10 MiB are kept, each with its head. A new one has the mode 640; one
-    that somebody has moved or removed is followed by another one. One that is opened again is not waited for."""
+    that somebody has moved or removed, or that has other columns, is followed by another one. One that is opened again
+    is not waited for."""
 
     def __init__(self, path: str, head: str, is_again: bool) -> None:
         self._head, self._is_again = head, is_again
         super().__init__(path, maxBytes=MOST_OCTETS, backupCount=KEPT)
+        if self._is_of_another_version():
+            self.doRollover()
+
+    def _is_of_another_version(self) -> bool:
+        """Whether the file has begun with other columns."""
+        if not self._head or not os.path.isfile(self.baseFilename):
+            return False
+        with open(self.baseFilename, encoding='utf-8', errors='replace') as file:
+            first = file.readline().rstrip('\n')
+        return first != self._head and first.partition(',')[0] == self._head.partition(',')[0]
 
     def _open(self) -> Any:
         stream = open(open_to_append(self.baseFilename, not self._is_again), 'a', encoding='utf-8')

@@ -56,7 +56,8 @@ def typed(kind: Any, plain: Any) -> Any:
     """A value of a type, of what JSON has in its place. TypeError or KeyError if it has another one."""
     if dataclasses.is_dataclass(kind):
         hints = get_type_hints(kind)
-        return kind(**{field.name: typed(hints[field.name], plain[field.name]) for field in dataclasses.fields(kind)})
+        names = [field.name for field in dataclasses.fields(kind) if field.name in plain]   # (others have a default)
+        return kind(**{name: typed(hints[name], plain[name]) for name in names})
     if hasattr(kind, '_fields'):            # (a NamedTuple)
         return kind(*(typed(its, value) for its, value in zip(get_type_hints(kind).values(), plain, strict=True)))
     origin, of = get_origin(kind), get_args(kind)

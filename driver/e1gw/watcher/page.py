@@ -14,6 +14,7 @@ from typing import Any, Iterable, Mapping, Sequence
 
 from ..calls import CallLine
 from ..ctl_all import TrunkHere, TrunkLine
+from ..deaf import HEARS_NOTHING, words_of_call, words_of_row
 from ..events import ReadEvent
 from ..metrics import NOT_OPEN, head_of, states_of
 from ..session import CIRCUITS
@@ -35,8 +36,8 @@ TABLES: tuple[tuple[str, str, tuple[str, ...], Sequence[str]], ...] = (
     ('alarms', '', ('alarm', 'since, UTC'), ['alarms']),
     ('circuits', 'Circuits', ('n', 'state', 'role', 'call for', 'codec', 'lost', 'jitter'),
      [f'c{n}' for n in CIRCUITS]),
-    ('last calls', 'The last calls', ('ended, UTC', 'n', 'direction', 'for', 'by', 'codec', 'lost', 'late',
-                                      'its speech, packets and picture'), ['calls']),
+    ('last calls', 'The last calls', ('ended, UTC', 'n', 'direction', 'for', 'by', 'codec', 'received', 'lost', 'late',
+                                      'discarded', 'its speech, packets and picture'), ['calls']),
     ('last', 'The last events', ('at, UTC', 'event'), ['events']))
 # What the page may do (Content Security Policy): it has this style and this script, and nothing else.
 POLICY = "default-src 'none'; connect-src 'self'; base-uri 'none'; form-action 'none'; frame-ancestors 'none'"
@@ -66,8 +67,9 @@ def length(seconds: float) -> str:
 
 
 def state_words(status: Mapping[str, Any], row: Mapping[str, Any]) -> str:
-    """The state of a circuit, with how far its block by the operator is."""
-    return NOT_OPEN if status.get('fault') else ', '.join(states_of(row))
+    """The state of a circuit, with how far its block by the operator is, and why it hears nothing."""
+    words = *states_of(row), words_of_row(row)
+    return NOT_OPEN if status.get('fault') else ', '.join(filter(None, words))
 
 
 def circuit_row(status: Mapping[str, Any], row: Mapping[str, Any], calls: Mapping[str, Mapping[str, str]]) -> list[str]:
@@ -86,8 +88,8 @@ def ended_row(line: str, kept: str | None) -> list[str]:
     call = CallLine(*next(csv.reader([line])))
     begin, end = call.seized or call.answered, second_of(call.ended)
     lasted = length(end - second_of(begin)) if begin else ''
-    return [clock(end), call.circuit, call.direction, lasted, call.by, call.codec, call.lost, call.late,
-            call.call if kept is None else f'e1gw-call {call.call}{kept}']
+    return [clock(end), call.circuit, call.direction, lasted, call.by, call.codec, call.received, call.lost, call.late,
+            words_of_call(call), call.call if kept is None else f'e1gw-call {call.call}{kept}']
 
 
 def parts_of(status: Mapping[str, Any], notes: PageNotes) -> Parts:
@@ -110,8 +112,13 @@ def message_of(parts: Parts) -> bytes:
 def body_of(name: str, rows: Rows) -> str:
     """A body of a table; its state, by which it is coloured, is the second cell of its first row."""
     state = rows[0][1] if rows and rows[0][1:] else ''
-    cells = ''.join(f'<tr>{"".join(f"<td>{escape(cell)}</td>" for cell in row)}</tr>' for row in rows)
-    return f'<tbody id="{name}" data-s="{escape(state)}">{cells}</tbody>'
+    return f'<tbody id="{name}" data-s="{escape(state)}">{"".join(map(row_of, rows))}</tbody>'
+
+
+def row_of(row: Sequence[str]) -> str:
+    """A row of a table; one that tells of a fault is red. (The script of the page goes by the same words.)"""
+    cells = ''.join(f'<td>{escape(cell)}</td>' for cell in row)
+    return f'<tr class="bad">{cells}</tr>' if any(HEARS_NOTHING in cell for cell in row) else f'<tr>{cells}</tr>'
 
 
 def table_of(kind: str, caption: str, heads: Iterable[str], bodies: Iterable[str]) -> str:

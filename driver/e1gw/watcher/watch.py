@@ -18,6 +18,7 @@ from ..calls import FIELDS, CallsNote, has_line
 from ..clearing import DisconnectWatch, OutageWatch, on_loss_of
 from ..clock import ClockFinding
 from ..counts import DatagramCounts
+from ..deaf import DeafCalls
 from ..events import (LAST, Burst, CallsCleared, CommandGiven, Event, LineChanged, RateChanged, ReadEvent, ReadEvents,
                       Slip, WatchEnded)
 from ..faults import named, words_of_refusal
@@ -64,11 +65,12 @@ class WatchWants:
 @dataclass(frozen=True)
 class ShownNote:
     """What pages show beside the status: the last events; alarms that stand, by what they are; the lines of the last
-    calls."""
+    calls; circuits that hear nothing, with the cause."""
 
     last: tuple[tuple[str, float], ...]
     alarms: tuple[tuple[str, str, float], ...]
     ended: tuple[str, ...]
+    deaf: dict[int, str] = field(default_factory=dict)
 
 
 class TrunkWatch:
@@ -79,7 +81,7 @@ class TrunkWatch:
         self._is_over = True                    # the trunk has ended, once this one does
         self.ended: dict[str, str | None] = dict.fromkeys(BESIDE)
         self._restarts = Resyncs(self.restart, self.tell)
-        self._counts = DatagramCounts(guarded(self._restarts.counted, WATCH))
+        self._counts, self._deaf = DatagramCounts(guarded(self._restarts.counted, WATCH)), DeafCalls(self.tell)
         self.status = TrunkStatus(trunk, wants.name, self.tell, self._counts, self._put_call)
         self._lines = self.status.lines
         self._program = ProgramConnection(lambda: trunk.places().control, self.status.stands, self.status.hurry,
@@ -158,13 +160,14 @@ class TrunkWatch:
         """What pages show beside the status."""
         alarms = ((key, each.words, each.time) for key, each in self._events.standing().items())
         last = ((each.words, each.time) for each in self._events.last)
-        return ShownNote((*last,), (*alarms,), (*self._ended_calls,))
+        return ShownNote((*last,), (*alarms,), (*self._ended_calls,), self._deaf.causes)
 
     def was_shown(self, note: ShownNote) -> None:
         """Pages show it again."""
         self._events.go_on((ReadEvent(*each) for each in note.last),
                            {key: ReadEvent(words, at) for key, words, at in note.alarms})
         self._ended_calls.extend(note.ended)
+        self._deaf.take_up(note.deaf)
 
     def _put_call(self, line: str) -> None:
         if self.trunk.facts()['pair'].get('role') != 'standby':
@@ -179,6 +182,8 @@ class TrunkWatch:
         if isinstance(event, LineChanged):
             event = replace(event, call=self._call_of(event))
             self._loop.call_soon(self.blocks.look)
+            if event.state is not State.ANSWERED:
+                self._deaf.ended(event.circuit)
         for hears in tell_journal, self._show, self._tell_followers:
             guarded(hears, WATCH)(event)
 
@@ -239,7 +244,9 @@ class TrunkWatch:
         status['clock'] = self.trunk.flow() | status['clock']
         status |= facts['carried'] | facts['pair']
         for row in status['circuits']:
-            row.update(self._counts.status(row['circuit']) | {'blocked': self.blocks.kept.now.word(row['circuit'])})
+            n = row['circuit']
+            row.update(self._counts.status(n) | {'blocked': self.blocks.kept.now.word(n),
+                                                 'deaf': self._deaf.causes.get(n)})
         return status
 
     # ---- the whole ----
@@ -284,6 +291,9 @@ class TrunkWatch:
         if self.wants.control and not os.path.lexists(self.wants.control):
             self._tasks.begin(self._listen_again(self.wants.control))
         self.status.look_at_flow(now)
+        if self._lines.live:
+            self._deaf.look(self._lines.place, {n: self._counts.circuits[n].stream for n, line in
+                                                self._lines.lines.items() if line.state is State.ANSWERED})
         self._restarts.look(now, self._lines.place, self._lines.open_circuits(), not self._counts.stale())
         self.disconnects.look(now)
         self.blocks.look()

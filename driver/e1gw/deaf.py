@@ -1,0 +1,107 @@
+"""Which calls hear nothing: no packet was accepted in them for a while, though they are answered; and the cause."""
+from __future__ import annotations
+
+from dataclasses import dataclass, replace
+from operator import itemgetter, sub
+from typing import Iterable, Mapping
+
+from .calls import CallLine
+from .counts import REASONS, ToldCounts
+from .events import CallsDeaf, Tell
+from .lines import circuit_words
+from .session import OCTETS_A_SECOND, DatagramRefusal
+from .session_clock import second_of
+
+DEAF_AFTER = 2 * OCTETS_A_SECOND        # octets of the trunk
+HEARS_NOTHING, NO_PACKETS = 'hears nothing', 'no packets'
+
+
+def why_deaf(octets: int, cause: str) -> str:
+    """Why an answered call hears nothing that has accepted no packet for these octets of the trunk, in which packets
+    were discarded for this cause, or none came. Nothing if that is not long."""
+    return '' if octets < DEAF_AFTER else cause or NO_PACKETS
+
+
+@dataclass(frozen=True)
+class Hearing:
+    """What an answered circuit hears: its counts up to now; the octet of the trunk at its answer, or at the last packet
+    that was accepted; the octet at the last discard since, and its cause."""
+
+    counts: ToldCounts
+    heard: int
+    discarded: int = 0
+    cause: str = ''
+
+    def seen(self, counts: ToldCounts, place: int) -> Hearing:
+        """The same with the counts up to an octet of the trunk."""
+        if counts.accepted != self.counts.accepted:
+            return Hearing(counts, place)
+        count, reason = max(zip(map(sub, counts.refused, self.counts.refused), REASONS), key=itemgetter(0))
+        if count <= 0 or reason is DatagramRefusal.NOT_OPEN:        # (these came before the call)
+            return replace(self, counts=counts)
+        return replace(self, counts=counts, discarded=place, cause=reason.label)
+
+    def why_deaf(self, place: int) -> str:
+        """Why it hears nothing at this octet of the trunk; nothing if it hears."""
+        return why_deaf(place - self.heard, self.cause if place - self.discarded < DEAF_AFTER else '')
+
+
+class DeafCalls:
+    """The calls of a trunk that hear nothing. `causes` has why, by circuit; `tell` is called when that begins and
+    ends."""
+
+    def __init__(self, tell: Tell) -> None:
+        self.causes, self._tell = dict[int, str](), tell
+        self._hearings = dict[int, Hearing]()
+
+    def take_up(self, causes: Mapping[int, str]) -> None:
+        """Goes on with what was told of these circuits."""
+        self.causes.update(causes)
+
+    def ended(self, circuit: int) -> None:
+        """Its call is over, or not answered any more."""
+        self._hearings.pop(circuit, None)
+        if self.causes.pop(circuit, ''):
+            self._tell(CallsDeaf(False, (circuit,)))
+
+    def look(self, place: int, answered: Mapping[int, ToldCounts]) -> None:
+        """To be called a few times a second, with the octet of the trunk and the counts of answered circuits."""
+        self._hearings = {n: (self._hearings.get(n) or self._begun(n, counts, place)).seen(counts, place)
+                          for n, counts in answered.items()}
+        before, now = self.causes, {n: why for n, each in self._hearings.items() if (why := each.why_deaf(place))}
+        self.causes = now
+        if over := before.keys() - now:
+            self._tell(CallsDeaf(False, (*sorted(over),)))
+        begun = {n: why for n, why in now.items() if n not in before}
+        for why in sorted({*begun.values()}):
+            self._tell(CallsDeaf(True, (*(n for n in begun if begun[n] == why),), why))
+
+    def _begun(self, circuit: int, counts: ToldCounts, place: int) -> Hearing:
+        """That of a circuit of which nothing was counted yet; of one that was told to hear nothing it goes on."""
+        if cause := self.causes.get(circuit, ''):
+            return Hearing(counts, place - DEAF_AFTER, place, cause if cause != NO_PACKETS else '')
+        return Hearing(counts, place)
+
+
+def words_of_row(row: Mapping[str, object]) -> str:
+    """That a circuit of a status hears nothing; nothing if it hears, or if its service does not know."""
+    return f'{HEARS_NOTHING}: {row["deaf"]}' if row.get('deaf') else ''
+
+
+def words_of_rows(rows: Iterable[Mapping[str, object]]) -> str:
+    """Which circuits of a status hear nothing, by the cause."""
+    circuits = dict[object, list[int]]()
+    for row in rows:
+        if row.get('deaf'):
+            circuits.setdefault(row['deaf'], []).append(int(str(row['circuit'])))
+    told = ', '.join(f'{circuit_words(its)} ({why})' for why, its in circuits.items())
+    return f'{HEARS_NOTHING}: {told}' if told else ''
+
+
+def words_of_call(call: CallLine) -> str:
+    """That a call that has ended heard nothing at all; or what was discarded of it, with the first cause."""
+    if call.answered and call.ended and call.received == '0':
+        octets = round((second_of(call.ended) - second_of(call.answered)) * OCTETS_A_SECOND)
+        if why := why_deaf(octets, call.cause):
+            return f'{HEARS_NOTHING}: {why}'
+    return f'{call.discarded} {call.cause}' if call.discarded not in ('', '0') else ''
