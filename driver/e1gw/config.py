@@ -24,7 +24,7 @@ from dataclasses import dataclass, replace
 
 from .config_faults import CODECS, ConfigFault, check, read_octets, refusal_of, socket_faults
 from .config_ports import EXAMPLE, NamedPorts, addresses_of, is_bound, trunks_in
-from .faults import number, words_of_fault
+from .faults import Parser, number, words_of_fault
 from .lines import no_peers
 from .session import CIRCUITS
 
@@ -250,8 +250,8 @@ def check_files(paths: list[str], is_socket_asked: bool) -> int:
 # ---- the command line ----
 
 def parser() -> argparse.ArgumentParser:
-    words = argparse.ArgumentParser(prog='e1gw-config', description=__doc__, usage=argparse.SUPPRESS,
-                                    formatter_class=argparse.RawDescriptionHelpFormatter)
+    words = Parser(prog='e1gw-config', description=__doc__, usage=argparse.SUPPRESS,
+                   formatter_class=argparse.RawDescriptionHelpFormatter)
     words.add_argument('--check', nargs='+', metavar='FILE', help='checks configurations and finds ports used twice')
     words.add_argument('--no-sockets', action='store_true', help='with --check, opens no socket')
     words.add_argument('--write', metavar='NAME', help='writes NAME.toml and NAME.options')

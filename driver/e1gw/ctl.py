@@ -32,7 +32,7 @@ from typing import BinaryIO
 from .ctl_all import PATIENCE, SOCKETS, answer_to, connected, overview, trunks_here
 from .ctl_calls import OutageForm, Wanted, calls_listed, outages_listed
 from .ctl_wait import STATES, AwaitedState, wait
-from .faults import checked, number, words_of_fault
+from .faults import Parser, checked, number, words_of_fault
 from .session import CIRCUITS, circuit_of
 from .session_clock import local_second
 
@@ -205,8 +205,8 @@ def next_words(parsed_args: argparse.Namespace, **_: object) -> list[str]:
 
 
 def main(patience: float = PATIENCE) -> None:
-    parser = argparse.ArgumentParser(prog='e1gw-ctl', description=__doc__, usage='e1gw-ctl [PATH | --all] [COMMAND..]',
-                                     formatter_class=argparse.RawDescriptionHelpFormatter)
+    parser = Parser(prog='e1gw-ctl', description=__doc__, usage='e1gw-ctl [PATH | --all] [COMMAND..]',
+                    formatter_class=argparse.RawDescriptionHelpFormatter)
     parser.add_argument('--all', action='store_true', help='each trunk of this machine')
     parser.add_argument('--last', metavar='N', type=number(1, 10**6), help='calls: the last N [default: 20, or all '
                         'with --from or --to]')

@@ -41,7 +41,7 @@ def checked(read: Callable[[str], Any], what: str = '') -> Callable[[str], Any]:
 
 
 class Parser(argparse.ArgumentParser):
-    """A parser that names the file of a unit's options."""
+    """A parser whose errors are one line, with the file of a unit's options."""
 
     def error(self, message: str) -> NoReturn:
-        super().error(message + options_words())
+        self.exit(2, f'{self.prog}: error: {message}; see {self.prog} --help{options_words()}\n')

@@ -357,7 +357,7 @@ class CtlAnswerTests(support.FolderCase):
                            (['west', 'east', '1'], 'east is a trunk: a command goes to one of them, and with --all to '
                             'each')):
             status, told, said = self.ctl(*words)
-            self.assertEqual((status, told, said.splitlines()[-1]), (2, [], f'e1gw-ctl: error: {why}'), words)
+            self.assertEqual((status, told, said), (2, [], f'e1gw-ctl: error: {why}; see e1gw-ctl --help\n'), words)
         self.assertEqual([trunk.asked for trunk in self.trunks.values()], [[], []])
 
     def test_move(self) -> None:

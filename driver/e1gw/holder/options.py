@@ -14,22 +14,29 @@ HELP = f'''usage: {NAME} --config FILE (--in FILE --out FILE | --unix PATH | --t
 Holds an E1 trunk: it opens the line, binds the circuits' sockets, and keeps a program on them that carries it, e1gw(1).
 If it ends, the program ends with it, and the next one goes on with all calls.
 
+What it needs:
   --config FILE         the configuration, e1gw.toml(5)
-  --name NAME           the name of the trunk in files [default: that of FILE]
-  --program E1GW        the program [default: that of this repository, or e1gw]
-  --folder DIR          where its sockets and its log are, in memory [default: RUNTIME_DIRECTORY, or {MEMORY}]
   --in FILE, --out FILE a device, files or FIFOs to read the trunk from, and to write it to; both may be one
   --unix PATH           a Unix stream socket to connect to, in place of the two
   --tcp HOST:PORT       a TCP socket to connect to, in place of the two
   --satop ENDS          SAToP (RFC 4553) over UDP: LOCAL:PORT,PEER:PORT, and options of e1gw satop as ,size=512,jitter=8
+
+The line:
   --reopen              opens a trunk that ends or fails again, each second
   --clear               the device gives time slots 1 to 31 alone
   --blocks FRAMES,N     of a DAHDI card: frames of a block, and how many it holds each way [default: 16,16]
   --align               octets of the trunk may begin at any bit
   --crc4                CRC-4: it is sent, and counted each second in what comes
+
+Calls:
   --senders WHOSE       whose datagrams are received, e1gw(1): any, first, host or peer [default: host]
   --repeat N            sends each datagram again behind the N-th after it, 0 to 8 [default: 0, never]
   --seizure-wait MS     a seizure that is not acknowledged is released then, 200 to 8000 [default: 200]
+
+Its name, files and watcher:
+  --name NAME           the name of the trunk in files [default: that of FILE]
+  --program E1GW        the program [default: that of this repository, or e1gw]
+  --folder DIR          where its sockets and its log are, in memory [default: RUNTIME_DIRECTORY, or {MEMORY}]
   --state FILE          the state is saved there at the end, and loaded at the start if it is there
   --standby             does not begin with the trunk, but once it is to take it
   --alone               starts no e1gw-watch(1); else one is started, too, where no systemd is, and has the options

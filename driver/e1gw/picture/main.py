@@ -7,7 +7,7 @@ import sys
 import time
 from collections.abc import Callable, Iterator
 
-from ..faults import checked
+from ..faults import Parser, checked
 from ..session_clock import second_of
 from ..session_files import InputError, RecordedSession
 from ..lines import read_config, with_wait
@@ -43,9 +43,9 @@ def span(text: str) -> int:
 
 
 def parser() -> argparse.ArgumentParser:
-    words = argparse.ArgumentParser(prog='e1gw-picture', description=ABOUT,
-                                    formatter_class=argparse.RawDescriptionHelpFormatter,
-                                    epilog='Example: e1gw-picture --config trunk1.toml -o page.html trunk1.rec')
+    words = Parser(prog='e1gw-picture', description=ABOUT,
+                   formatter_class=argparse.RawDescriptionHelpFormatter,
+                   epilog='Example: e1gw-picture --config trunk1.toml -o page.html trunk1.rec')
     words.add_argument('session', metavar='SESSION', help='the session given to the gateway')
     words.add_argument('--config', metavar='FILE', help='the configuration [default: that of the kept session]')
     words.add_argument('--capture', metavar='FILE', help='a capture of the datagrams')

@@ -26,7 +26,7 @@ from functools import partial
 from typing import Any, NamedTuple
 
 from ..calls import CallLine, csv_line, moment, read_calls
-from ..faults import words_of_fault
+from ..faults import Parser, words_of_fault
 from ..frames import FrameSearch
 from ..lines import IN_CALL, read_config
 from ..picture.beginning import Begun, begin_at
@@ -289,8 +289,8 @@ def cut_of(call: EndedCall, session: RecordedSession, config: str, program: str 
 
 def asked_for() -> argparse.Namespace:
     """What the command line asks for."""
-    words = argparse.ArgumentParser(description=__doc__, usage=argparse.SUPPRESS,
-                                    formatter_class=argparse.RawDescriptionHelpFormatter)
+    words = Parser(description=__doc__, usage=argparse.SUPPRESS,
+                   formatter_class=argparse.RawDescriptionHelpFormatter)
     words.add_argument('call', metavar='ID')
     words.add_argument('kept', metavar='KEPT', nargs='?')
     words.add_argument('--calls', metavar='FILE')

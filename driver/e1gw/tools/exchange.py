@@ -18,6 +18,7 @@ import sys
 import time
 
 from ..exchange import ACKNOWLEDGED, ANSWERED, IDLE, SEIZED, Exchange
+from ..faults import Parser
 from ..session import MULTIFRAME
 
 STEP = 0.002            # seconds of a multiframe
@@ -133,8 +134,8 @@ def carry(line: socket.socket, typed: TypedLines) -> None:
 
 
 def main() -> None:
-    words = argparse.ArgumentParser(description=__doc__, usage=argparse.SUPPRESS,
-                                    formatter_class=argparse.RawDescriptionHelpFormatter)
+    words = Parser(description=__doc__, usage=argparse.SUPPRESS,
+                   formatter_class=argparse.RawDescriptionHelpFormatter)
     words.add_argument('--again', action='store_true')
     words.add_argument('path', metavar='PATH')
     asked = words.parse_args()

@@ -31,7 +31,7 @@ from dataclasses import replace
 from ipaddress import ip_address
 from typing import Any, BinaryIO, Callable, Iterable, Iterator, Mapping, NamedTuple
 
-from ..faults import checked, words_of_fault
+from ..faults import Parser, checked, words_of_fault
 from ..lines import law_of, lines_of, read_config
 from ..packets import BadCapture, packets
 from ..session import (CIRCUITS, SAMPLES_A_SECOND, BadPacket, BadSession, Kind, Record, Repetitions, datagram_record,
@@ -296,8 +296,8 @@ def opened(file: str | None) -> BinaryIO:
 
 def asked_for() -> argparse.Namespace:
     """What the command line asks for."""
-    words = argparse.ArgumentParser(description=__doc__, usage=argparse.SUPPRESS,
-                                    formatter_class=argparse.RawDescriptionHelpFormatter)
+    words = Parser(description=__doc__, usage=argparse.SUPPRESS,
+                   formatter_class=argparse.RawDescriptionHelpFormatter)
     words.add_argument('--back', action='store_true')
     words.add_argument('--circuit', metavar='N', type=int, choices=CIRCUITS)
     words.add_argument('--config', metavar='FILE')

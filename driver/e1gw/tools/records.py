@@ -25,7 +25,7 @@ import struct
 import sys
 from typing import BinaryIO, Iterator
 
-from ..faults import number, words_of_fault
+from ..faults import Parser, number, words_of_fault
 from ..session_files import InputError, note_of, octets_of, pieces
 from ..frames import REVERSED, FrameSearch, raw_words_of
 from ..session import (CIRCUITS, FRAME, OCTETS_A_SECOND, BadPacket, BadSession, Kind, Record, packet_of, records,
@@ -138,8 +138,8 @@ def times(text: str) -> int:
 
 def asked_for() -> argparse.Namespace:
     """What the command line asks for."""
-    words = argparse.ArgumentParser(description=__doc__, usage=argparse.SUPPRESS,
-                                    formatter_class=argparse.RawDescriptionHelpFormatter)
+    words = Parser(description=__doc__, usage=argparse.SUPPRESS,
+                   formatter_class=argparse.RawDescriptionHelpFormatter)
     words.add_argument('--from-raw', action='store_true')
     what = words.add_mutually_exclusive_group()
     what.add_argument('--to-raw', action='store_true')
