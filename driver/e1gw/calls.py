@@ -153,7 +153,7 @@ class CallLog:
 
     def _begin(self, circuit: int, seized: float | None) -> None:
         line = self._lines[circuit]
-        self._counts.circuits[circuit].cause = ''
+        self._counts.circuits[circuit].begin_call()
         self._calls[circuit] = CallRecord(circuit, seized, line.unacknowledged,
                                           number=line.seizures if seized is not None else 0)
 
@@ -235,7 +235,7 @@ class CallLog:
 
     def _now(self, circuit: int) -> dict[str, int]:
         counts = self._counts.circuits[circuit]
-        return {**counts.counts(), 'lost': counts.stream.lost, 'discarded': counts.discarded()}
+        return {**counts.counts(), 'lost': counts.numbers.lost, 'discarded': counts.discarded()}
 
     def _cause(self, call: CallRecord) -> str:
         """Why the first packet of a call was discarded, if one was."""

@@ -1,11 +1,12 @@
 """What became of the datagrams of each circuit."""
 from __future__ import annotations
 
-from dataclasses import dataclass, replace
+from dataclasses import dataclass, field, replace
 from operator import add, sub
 from typing import Any, Callable
 
-from .session import CIRCUITS, DatagramRefusal
+from .lost import ReceivedNumbers
+from .session import CIRCUITS, HEAD, DatagramRefusal, Kind
 
 REASONS = (*DatagramRefusal,)       # why datagrams are refused, in the order of a line `counts` (e1gw-tell(5))
 NONE_REFUSED = (0,) * len(REASONS)
@@ -19,7 +20,6 @@ class ToldCounts:
     number for each reason."""
 
     accepted: int = 0
-    lost: int = 0
     jitter: int = 0                         # samples
     refused: tuple[int, ...] = NONE_REFUSED
 
@@ -29,8 +29,7 @@ class ToldCounts:
 
     def behind(self, before: ToldCounts) -> ToldCounts:
         """These and those of sessions before."""
-        return ToldCounts(before.accepted + self.accepted, before.lost + self.lost, self.jitter,
-                          tuple(map(add, before.refused, self.refused)))
+        return ToldCounts(before.accepted + self.accepted, self.jitter, tuple(map(add, before.refused, self.refused)))
 
 
 @dataclass(slots=True)
@@ -44,11 +43,17 @@ class CircuitCounts:
     before: ToldCounts = ToldCounts()       # of the sessions before this one
     told: ToldCounts = ToldCounts()         # of this session
     cause: str = ''             # of the first discard of its call, if one was told
+    numbers: ReceivedNumbers = field(default_factory=ReceivedNumbers)
 
     @property
     def stream(self) -> ToldCounts:
         """Those of all sessions that told of them."""
         return self.told.behind(self.before)
+
+    def begin_call(self) -> None:
+        """What comes from now on is of another call, whose peer may number anew."""
+        self.cause = ''
+        self.numbers.begin()
 
     def settle(self) -> None:
         """All of this is of one moment."""
@@ -92,9 +97,23 @@ class DatagramCounts:
         """What was told up to now is what is known of each circuit."""
         for n, row in self.circuits.items():
             its, told = known.circuits[n].stream, row.told
-            row.before = ToldCounts(its.accepted - told.accepted, its.lost - told.lost, 0,
-                                    tuple(map(sub, its.refused, told.refused)))
-            row.cause = known.circuits[n].cause
+            row.before = ToldCounts(its.accepted - told.accepted, 0, tuple(map(sub, its.refused, told.refused)))
+            row.cause, row.numbers = known.circuits[n].cause, known.circuits[n].numbers
+
+    def take_records(self, octets: bytes) -> None:
+        """Whole records of the log: the datagrams that have come."""
+        at, last, unpack, datagram = 0, len(octets) - HEAD.size, HEAD.unpack_from, int(Kind.DATAGRAM)
+        while at <= last:
+            kind, circuit, length = unpack(octets, at)
+            at += HEAD.size
+            if kind == datagram:
+                self.circuits[circuit].numbers.take(octets, at, length)
+            at += length
+
+    def missed(self) -> None:
+        """A part of the log was not read."""
+        for row in self.circuits.values():
+            row.numbers.begin()
 
     def take(self, circuit: int, told: ToldCounts) -> None:
         """What a session has counted for a circuit up to now, of which nothing is known one by one."""
@@ -116,5 +135,5 @@ class DatagramCounts:
     def status(self, circuit: int) -> dict[str, Any]:
         """The counts of a circuit, as plain values."""
         row = self.circuits[circuit]
-        return {'datagrams': row.counts(), 'lost': row.stream.lost,
+        return {'datagrams': row.counts(), 'lost': row.numbers.lost,
                 'jitter_ms': round(row.stream.jitter / SAMPLES, 2), 'stale': self.stale()}

@@ -132,8 +132,8 @@ class TrunkState:
             alarms[what] = on
             self.tell(kind(what, on, self.place))
 
-    def _counts(self, circuit: str, accepted: str, lost: str, jitter: str, *refused: str) -> None:
-        told = ToldCounts(int(accepted), int(lost), int(jitter), tuple(map(int, refused)))
+    def _counts(self, circuit: str, accepted: str, _: str, jitter: str, *refused: str) -> None:
+        told = ToldCounts(int(accepted), int(jitter), tuple(map(int, refused)))
         if self.live:
             self.counts.count(int(circuit), told, self.place)
         else:

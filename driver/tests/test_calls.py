@@ -67,7 +67,7 @@ class CalledTrunk:
 
     def numbers(self, n: int) -> list[int]:
         its = self.counts.circuits[n]
-        return [its.sent, its.admitted, its.stream.lost, its.counts().get('Late', 0), its.discarded()]
+        return [its.sent, its.admitted, its.numbers.lost, its.counts().get('Late', 0), its.discarded()]
 
     def put(self, line: str) -> None:
         row = dict(zip(FIELDS, next(csv.reader([line]))))
@@ -152,7 +152,8 @@ class CalledTrunk:
         its = self.counts.circuits[n]
         late = tuple(2 * (reason.label == 'Late') for reason in REASONS)
         its.sent, its.admitted = its.sent + count, its.admitted + 1
-        its.told = ToldCounts(lost=count // 2, refused=late).behind(its.told)
+        its.numbers.before += count // 2
+        its.told = ToldCounts(refused=late).behind(its.told)
 
     def stops(self) -> None:
         for n in [*self.open]:

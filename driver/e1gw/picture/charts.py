@@ -276,7 +276,7 @@ class PlayoutChart:
         outages(sheet, self.scale, TOP, sheet.height)
         words = [('label strong', f'circuit {row.number}'), ('tick', f'prefill {row.prefill / 8:g} ms')]
         words += [('bad', f'{whole.refused[code][0]} {name_of(code)}') for code in UNTIMELY if code in whole.refused]
-        if whole.lost > 0 and 12 not in whole.refused:
+        if whole.lost > 0:
             words.append(('tick', f'{whole.lost} lost'))
         for n, (kind, text) in enumerate(words):
             sheet.words(4, 30 + 14 * n, text, kind)

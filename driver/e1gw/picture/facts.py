@@ -15,6 +15,7 @@ from typing import Any
 
 from ..session_clock import Break
 from ..lines import OPEN, SEIZURE_WAIT
+from ..lost import ReceivedNumbers
 from ..session import FRAME, MULTIFRAME, OCTETS_A_SECOND, Repetitions
 from .sound import HeardSamples, ListeningTimes
 
@@ -171,7 +172,6 @@ class CallStream:
     wrong: dict[int, list[int]] = field(default_factory=dict)
     sequence: int = -1
     stamp: int = 0
-    missing: set[int] = field(default_factory=set)      # missing sequence numbers
     came: ListeningTimes = field(default_factory=ListeningTimes)    # when to listen: to datagrams, to the time slot
     slot: ListeningTimes = field(default_factory=ListeningTimes)
     stretch: list[bytes] | None = None                  # consecutive datagrams to decode
@@ -228,9 +228,13 @@ class Row:
     begun: list[int] = field(default_factory=list)      # places where the playout restarted
     wire: Wire | None = None
     before: Repetitions = field(default_factory=Repetitions)
+    numbers: ReceivedNumbers = field(default_factory=ReceivedNumbers)
 
     def came(self, place: int, code: int, datagram: bytes, sequence: int, stamp: int, ssrc: int) -> None:
         """A datagram received, its answer, and three numbers of its header. A refused repetition counts separately."""
+        lost = self.numbers.lost
+        self.numbers.take(datagram, 0, len(datagram))
+        self.cell.lost += self.numbers.lost - lost
         if self.before.is_one(datagram) and code:
             self.cell.counts['repetitions'] += 1
             return
@@ -251,13 +255,7 @@ class Row:
         """Follows the place of a datagram in its stream."""
         ahead = sequence - stream.sequence & 0xFFFF
         if stream.sequence >= 0 and ahead != 1:
-            if 1 < ahead < 3000:
-                self.cell.lost += ahead - 1
-                stream.missing.update((stream.sequence + k) & 0xFFFF for k in range(1, ahead))
-            elif ahead > 0x8000:
-                if sequence in stream.missing:          # otherwise a repeated one
-                    stream.missing.remove(sequence)
-                    self.cell.lost -= 1
+            if ahead > 0x8000:
                 return
         elif stream.sequence >= 0:
             words = (length - 12) * 8 // BITS.get(self.codec, 8)
@@ -288,6 +286,7 @@ class Row:
             self.states.put(place, state)
         if (state in OPEN) != (was in OPEN):
             self.stream = CallStream()
+            self.numbers.begin()
         if state == 'seized' or self.role == 'incoming' and (was, state) == ('idle', 'acked'):
             self.cell.counts['calls'] += 1
         elif name := COUNTED.get((was, state)) or COUNTED.get(('', state)):

@@ -187,8 +187,8 @@ def _missing(row: Row, whole: Cell) -> Iterator[Anomaly]:
         every = again + whole.arrived()
         yield Anomaly('repeated' if again <= every // 2 else 'repeated often', row.number,
                       f'{again} of {every} packets are repetitions')
-    every = whole.admitted + whole.lost
-    if whole.lost > max(2, every // 200) and not set(whole.refused) & {11, 12}:
+    every = whole.arrived() + whole.lost
+    if whole.lost > max(2, every // 200):
         yield Anomaly('lost', row.number, f'{whole.lost} datagrams are missing by their sequence numbers, of {every}')
 
 

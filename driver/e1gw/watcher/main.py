@@ -100,6 +100,7 @@ class Watcher:
         reader.take_up(note.read if note else ReadingNote(), note.recording if note else None)
         watch.status.changed = self.note
         reader.found, reader.told = watch.flowed, lambda: watch.status.lines.place
+        reader.took, reader.missed = watch.counts.take_records, watch.counts.missed
         if pair := open_pair(asked, trunk, watch.tell):
             trunk.stands_with(pair)
         return True

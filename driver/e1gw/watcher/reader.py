@@ -55,6 +55,8 @@ class LogReader:
         self.found: Callable[[ClockFinding], None] = lambda finding: None
         self.told: Callable[[], int] = lambda: 0
         self.turned: Callable[[], None] = lambda: None      # called at each state that is read
+        self.took: Callable[[bytes], None] = lambda octets: None    # .. with records that are read
+        self.missed: Callable[[], None] = lambda: None      # .. if others before them were not read
         self.octets = 0                         # of the trunk, up to now
         self.has_missed = False                 # .. too few, since a part of the log was not read: so many, by its time
         self._missed = 0
@@ -209,12 +211,14 @@ class LogReader:
     def _take(self, news: LogNews, behind: Sequence[LogNews], written: float) -> None:
         if isinstance(news, LogPiece):
             self.octets += whole_records(news.octets)[1]
+            self.took(news.octets)
             self.log.place = news.place + len(news.octets)
             if self._recording and self._begun is not None:
                 self._recording.put(news.octets, self.log.place, self.octets)
             return
         if isinstance(news, LogBegun):
             self._is_overtaken(news, octets_in(behind), written)
+            self.missed()
         self.log.place = news.state.place
         self.turned()
         self._see_file(news.state, isinstance(news, LogBegun), octets_in(behind))

@@ -201,8 +201,7 @@ class TrunkStatus:
         self.stands('reports', False, f'{self._trunk.places().tell}: {self._why}')
 
     def takes(self, line: socket.socket, most: int) -> bool:
-        """Takes what was told; whether more may follow. (Octets that are read are taken at once, so others that come
-        behind them are not taken before.)"""
+        """Takes what was told, at once, so that nothing behind it is taken before; whether more may follow."""
         try:
             octets, before = line.recv(most), self.lines.place
             self.lines.take(octets)
@@ -219,7 +218,8 @@ class TrunkStatus:
             return False
 
     def take_now(self) -> None:
-        """Takes what has been told up to now."""
+        """Takes what has been told and logged up to now."""
+        self._trunk.reader.read()
         with suppress(OSError):
             if self._line:
                 self.takes(self._line, 1 << 20)

@@ -81,8 +81,8 @@ class TrunkWatch:
         self._is_over = True                    # the trunk has ended, once this one does
         self.ended: dict[str, str | None] = dict.fromkeys(BESIDE)
         self._restarts = Resyncs(self.restart, self.tell)
-        self._counts, self._deaf = DatagramCounts(guarded(self._restarts.counted, WATCH)), DeafCalls(self.tell)
-        self.status = TrunkStatus(trunk, wants.name, self.tell, self._counts, self._put_call)
+        self.counts, self._deaf = DatagramCounts(guarded(self._restarts.counted, WATCH)), DeafCalls(self.tell)
+        self.status = TrunkStatus(trunk, wants.name, self.tell, self.counts, self._put_call)
         self._lines = self.status.lines
         self._program = ProgramConnection(lambda: trunk.places().control, self.status.stands, self.status.hurry,
                                           lambda: str(trunk.facts()['fault']))
@@ -180,6 +180,7 @@ class TrunkWatch:
     def tell(self, event: Event) -> None:
         """Tells a change to the journal and to all who follow. One that fails takes it from no other."""
         if isinstance(event, LineChanged):
+            guarded(self.trunk.reader.read, WATCH)()        # (what came up to the end of a call is counted)
             event = replace(event, call=self._call_of(event))
             self._loop.call_soon(self.blocks.look)
             if event.state is not State.ANSWERED:
@@ -237,7 +238,7 @@ class TrunkWatch:
             'calls_file': wants.calls and os.path.abspath(wants.calls),
             'events_file': wants.json and os.path.abspath(wants.json) if wants.json != '-' else None,
             'session_path': wants.session and os.path.abspath(wants.session),
-            'stale': self._counts.stale(), 'ended': self.ended | {'session': facts['session']},
+            'stale': self.counts.stale(), 'ended': self.ended | {'session': facts['session']},
             'renewed': self._resyncs, 'alarms': self._events.alarms(), 'http': wants.http,
             'commands': [{'command': name, 'answer': answer, 'count': n}
                          for (name, answer), n in sorted(self._done.items())]}
@@ -245,8 +246,8 @@ class TrunkWatch:
         status |= facts['carried'] | facts['pair']
         for row in status['circuits']:
             n = row['circuit']
-            row.update(self._counts.status(n) | {'blocked': self.blocks.kept.now.word(n),
-                                                 'deaf': self._deaf.causes.get(n)})
+            row.update(self.counts.status(n) | {'blocked': self.blocks.kept.now.word(n),
+                                                'deaf': self._deaf.causes.get(n)})
         return status
 
     # ---- the whole ----
@@ -292,9 +293,9 @@ class TrunkWatch:
             self._tasks.begin(self._listen_again(self.wants.control))
         self.status.look_at_flow(now)
         if self._lines.live:
-            self._deaf.look(self._lines.place, {n: self._counts.circuits[n].stream for n, line in
+            self._deaf.look(self._lines.place, {n: self.counts.circuits[n].stream for n, line in
                                                 self._lines.lines.items() if line.state is State.ANSWERED})
-        self._restarts.look(now, self._lines.place, self._lines.open_circuits(), not self._counts.stale())
+        self._restarts.look(now, self._lines.place, self._lines.open_circuits(), not self.counts.stale())
         self.disconnects.look(now)
         self.blocks.look()
         self._outages.look(now, self.status.outage())

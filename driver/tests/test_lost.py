@@ -1,0 +1,185 @@
+"""Packets that the network lost: by the numbers of all that came, and alike wherever they are shown."""
+from __future__ import annotations
+
+import re
+import socket
+import unittest
+import urllib.request
+from typing import Iterable, Iterator
+
+from . import support
+from .picture_made import read_session, rtp
+from .properties import PropertyCase
+from .shown import ShownTables
+from .test_trunk import aligned, call
+from .world import World
+from e1gw.calls import read_calls
+from e1gw.ctl_all import TrunkLine
+from e1gw.lost import AHEAD, IN_A_ROW, WINDOW, ReceivedNumbers
+from e1gw.testing.ports import free_port, free_ports
+
+COUNT, FIRST = 120, 65_500          # packets of a call, and the first number
+Plan = Iterable[tuple[int, int, int, int]]      # turns of 20 ms, each with number, source and payload type of a packet
+
+
+def lost_of(*numbers: int) -> ReceivedNumbers:
+    """Packets of one source come with these numbers."""
+    found = ReceivedNumbers()
+    take(found, 7, *numbers)
+    return found
+
+
+def take(found: ReceivedNumbers, source: int, *numbers: int) -> None:
+    for number in numbers:
+        datagram = rtp(number, 0, source)
+        found.take(b'before' + datagram, 6, len(datagram))
+
+
+class ReceivedNumberTests(PropertyCase):
+    def test_numbers(self) -> None:
+        far = AHEAD + 100
+        rows: list[tuple[list[int], int]] = [
+            ([], 0), ([5], 0), ([5, 6, 8], 1), ([5, 8, 6], 1), ([5, 8, 6, 7], 0), ([5, 5, 6, 6], 0),
+            ([65534, 1], 2), ([5, 7, 6, 6], 0), ([5, 4, 7], 1), ([5, 4 + AHEAD], AHEAD - 2),
+            ([5, 5 + AHEAD], 0),
+            # one that is far ahead or behind is none of these, unless others follow it
+            ([5, far, 7], 1), ([5, far, far + 1, 7], 1), ([5, 7, 65000, 8], 1),
+            ([5, 7, *range(far, far + IN_A_ROW), far + IN_A_ROW + 1], 2),
+            # what comes very late is lost, since nobody knows any more what came then
+            ([5, 7, *range(8, 6 + WINDOW), 6], 0), ([5, 7, *range(8, 7 + WINDOW), 6], 1)]
+        for numbers, lost in rows:
+            self.assertEqual(lost_of(*(each & 0xFFFF for each in numbers)).lost, lost, numbers)
+
+    def test_sources(self) -> None:
+        """Another source is no part of the stream, unless it goes on with its numbers, or comes alone."""
+        found = lost_of(5, 6)
+        for number in range(7, 50):
+            take(found, 9, 1000 + 5 * number)
+            take(found, 7, *[number] * (number % 10 != 0))
+        self.assertEqual(found.lost, 4)
+        take(found, 9, 50)
+        take(found, 7, 51)
+        self.assertEqual(found.lost, 4)
+        take(found, 9, *range(2000, 2000 + IN_A_ROW - 1), 2000 + IN_A_ROW, 3000 + IN_A_ROW)
+        self.assertEqual(found.lost, 4 + 1 + 999)
+
+    def test_another_call(self) -> None:
+        """Begins anew, and what was lost stays; octets that are no RTP have no number."""
+        found = lost_of(5, 7)
+        found.begin()
+        take(found, 7, 60, 62)
+        for octets in b'', rtp(90, 0, 7)[:11], b'\x40' + rtp(90, 0, 7)[1:]:
+            found.take(octets, 0, len(octets))
+        self.assertEqual(found.lost, 2)
+
+    def test_any_order(self) -> None:
+        """Whatever is lost and overtakes others: all between the first and the highest number that did not come."""
+        def check(first: int, packets: list[tuple[int, bool]]) -> None:
+            order = sorted((n + late, n) for n, (late, is_lost) in enumerate(packets) if not is_lost)
+            numbers = [n for _, n in order]
+            came = [n for n in numbers if n >= numbers[0]]
+            lost = len({*range(numbers[0], max(came))} - {*came}) if came else 0
+            assert lost_of(*(first + n & 0xFFFF for n in numbers)).lost == lost
+        self.holds(check, self.st.integers(0, 65535), self.st.lists(
+            self.st.tuples(self.st.integers(0, 20), self.st.booleans()), max_size=80))
+
+
+# ---- one session with each kind of fault ----
+
+def plan(without: Iterable[int], **at: int) -> Iterator[tuple[int, int, int, int]]:
+    """All packets but some; those with the number `at` come so many turns later."""
+    later = {int(name[1:]): turns for name, turns in at.items()}
+    yield from ((n + later.get(n, 0), n, 7, 8) for n in range(COUNT) if n not in without)
+
+
+def stranger() -> Plan:
+    """A second source, with numbers of its own, some of which are missing."""
+    yield from plan({12, 80})
+    yield from ((n, 20_000 + 7 * n, 9, 8) for n in range(5, COUNT, 2))
+
+
+# Each circuit has a fault, and why packets are discarded then.
+FAULTS: dict[int, tuple[Plan, set[str]]] = {
+    1: ([*plan({10, 11, 50, 118})], set()), 2: ([*plan({5}, n20=10, n21=10, n60=12)], {'Late'}),
+    3: (sorted([*plan({33}), *(each for each in plan({33}) if each[1] % 10 == 0)]), {'Repeat'}),
+    4: ([*plan({70}, n15=1, n40=1)], set()),
+    5: ([(turn, n, ssrc, 13 if n % 3 == 0 else kind) for turn, n, ssrc, kind in plan({31, 32})], {'PayloadType'}),
+    6: ([(turn, n, ssrc, 13) for turn, n, ssrc, _ in plan({21, 22, 23})], {'PayloadType'}),
+    7: ([*stranger()], {'WrongSource'}),
+    8: ([(turn, n, 7 + 2 * (n % 2), kind) for turn, n, _, kind in plan({44})], {'WrongSource'})}
+
+
+def lost_in(packets: Plan) -> int:
+    """The numbers between the first and the last one of a call that nobody sent."""
+    came = {n for _, n, _, _ in packets if n < COUNT}
+    return len({*range(min(came), max(came))} - came)
+
+
+class ShownLossTests(unittest.TestCase):
+    def setUp(self) -> None:
+        peers = {n: socket.socket(socket.AF_INET, socket.SOCK_DGRAM) for n in FAULTS}
+        for line in peers.values():
+            line.bind(('127.0.0.1', 0))
+            self.addCleanup(line.close)
+        self.peers, self.ports, self.http = peers, dict(zip(FAULTS, free_ports(len(FAULTS)))), free_port()
+        self.config = support.config_text({n: {
+            'role': 'outgoing', 'prefill': 320, 'local_port': self.ports[n], 'peer_port': line.getsockname()[1]}
+            for n, line in peers.items()})
+        self.world = World(self.config, '--session', '@/session', '--calls', '@/calls', '--gap', '10000', '--http',
+                           f'127.0.0.1:{self.http}')
+        self.addCleanup(self.world.__exit__)
+
+    def send_all(self) -> None:
+        """The packets of all circuits, in 20 ms of the trunk each those that are due then, in their order."""
+        due = [(turn, circuit, n, ssrc, kind) for circuit, (packets, _) in FAULTS.items()
+               for turn, n, ssrc, kind in packets]
+        for now in range(max(due)[0] + 1):
+            for turn, circuit, n, ssrc, kind in due:
+                if turn == now:
+                    self.peers[circuit].sendto(rtp(FIRST + n, 160 * n, ssrc, kind),
+                                               ('127.0.0.1', self.ports[circuit]))
+            self.world.step(10)
+
+    def came(self) -> dict[int, int]:
+        """How many packets of each circuit came."""
+        return {row['circuit']: sum(row['datagrams'].values()) - row['datagrams']['sent']
+                for row in self.world.told()['circuits'] if row['circuit'] in FAULTS}
+
+    def got(self, path: str) -> str:
+        request = urllib.request.Request(f'http://127.0.0.1:{self.http}{path}', headers={'Accept': 'text/html'})
+        with urllib.request.urlopen(request, timeout=support.SECONDS) as answer:
+            return str(answer.read().decode())
+
+    def shown(self) -> dict[str, dict[int, int]]:
+        """What is shown of each circuit while calls last."""
+        status, rows = self.world.status(), self.world.ask('status').splitlines()
+        cells = ShownTables(self.got('/')).rows
+        found = {'status': {row['circuit']: row['lost'] for row in status['circuits']},
+                 'table': {int(row[0]): int(row[13]) for line in rows if (row := line.split())[0].isdecimal()
+                           and row[1] == 'outgoing'},
+                 'calls': {int(each['circuit']): int(each['lost']) for each in status['calls']},
+                 'page': {n: int(cells[f'c{n}'][0][5]) for n in FAULTS},
+                 'metrics': {int(n): int(lost) for n, lost in re.findall(
+                     r'e1gw_rtp_lost\{.*circuit="(\d+)"\} (\d+)\n', self.got('/metrics'))}}
+        self.assertEqual(TrunkLine.of('west', status).lost, str(sum(found['status'].values())))
+        for n, (_, causes) in FAULTS.items():
+            self.assertEqual({*status['circuits'][n - 1]['datagrams']} - {'sent', 'admitted'}, causes, n)
+        return found
+
+    def test_alike_everywhere(self) -> None:
+        world, expected = aligned(self.world), {n: lost_in(packets) for n, (packets, _) in FAULTS.items()}
+        for circuit in FAULTS:
+            call(world, circuit)
+        self.send_all()
+        sent = {n: len([*packets]) for n, (packets, _) in FAULTS.items()}
+        world.until(lambda: self.came() == sent)
+        found = self.shown()
+        for circuit in FAULTS:
+            world.ask(f'clear {circuit}')
+        world.until(lambda: {row['state'] for row in world.told()['circuits'] if row['circuit'] in FAULTS} == {'idle'})
+        world.quit()
+        found['csv'] = {int(each.circuit): int(each.lost) for each in read_calls(world.path('calls'))}
+        facts = read_session(self.config, support.octets_of(world.path('session')))
+        found['picture'] = {n: facts.rows[n].count().lost for n in FAULTS}
+        for what, each in found.items():
+            self.assertEqual({n: each[n] for n in FAULTS}, expected, what)
