@@ -18,15 +18,53 @@ STEADY = 0.02               # seconds by which octets of a steady flow are early
 DRIFT = 200e-6              # a clock that is off by no more than this is followed
 MINUTE = 60
 RATE_LIMIT = 200            # parts in a million
+HALF, LEAST = 10.0, 14.0    # seconds of which the least lateness is compared with that before; and of both, the fewest
+APART = 0.01                # seconds by which these differ at most: of 10 s a thousandth
+EACH = 1.0                  # seconds of which the least lateness is kept
+PAUSE = 1.0                 # seconds without octets, which are told as a stall
 
 
 @dataclass(frozen=True)
 class ClockFinding:
-    """What was found: `gap` and `ahead` (with the seconds that octets were displaced by) or `rate` (with parts in a
-    million)."""
+    """What was found: `gap` and `ahead` (with the seconds that octets were displaced by), `rate` (with parts in a
+    million), or `wrong rate` and `right rate` (with the part of the octets that came)."""
 
     what: str
     value: float
+
+
+class TrunkRate:
+    """The part of the octets that came over the last seconds, whether they flow steadily or not.
+
+    Octets that wait because a machine stands still are late, and made up for: the least lateness of some seconds tells
+    nothing of that, if they are more than it stands still. The first comparison is of 7 s with 7 s, which bears 5 s."""
+
+    def __init__(self) -> None:
+        self.ratio: float | None = None         # none until it is known
+        self.is_wrong = False
+        self._lows = deque[tuple[float, float]]()       # the least lateness, of seconds that began then
+
+    def clear(self) -> None:
+        """It is measured anew."""
+        self._lows.clear()
+
+    def look(self, now: float, behind: float) -> bool:
+        """Octets are late by so much. Whether the rate is wrong since this look, or right again."""
+        lows = self._lows
+        if lows and now - lows[-1][0] < EACH:
+            lows[-1] = lows[-1][0], min(lows[-1][1], behind)
+            return False
+        lows.append((now, behind))
+        while now - lows[0][0] > 2 * HALF:
+            lows.popleft()
+        if now - lows[0][0] < LEAST:
+            return False
+        middle = (lows[0][0] + now) / 2
+        before, since = ([low for low in lows if (low[0] >= middle) is is_since] for is_since in (False, True))
+        more = min(low for _, low in since) - min(low for _, low in before)
+        self.ratio = 1 - more / (since[0][0] - before[0][0])
+        was, self.is_wrong = self.is_wrong, abs(more) > APART
+        return self.is_wrong is not was
 
 
 class Clock:
@@ -37,7 +75,7 @@ class Clock:
         self.octets = 0
         self.gaps, self.lost_seconds = 0, 0.0       # how many there were, and how long in all
         self.ppm: float | None = None
-        self.off_rate = False
+        self.off_rate, self.rate = False, TrunkRate()
         self._began = self._last = self._looked = now
         self._low: float | None = None      # the least that octets were behind since the last look, as they came
         self._lows: deque[float] = deque(maxlen=WINDOW)
@@ -61,12 +99,25 @@ class Clock:
         self._low = self._base = None
         self._lows.clear()
         self._rates.clear()
+        self.rate.clear()
 
     def look(self, now: float) -> list[ClockFinding]:
         """To be called each TICK: what has become of the flow since."""
         if now - self._looked >= self.gap:
             self._last = now    # this process stood still
         self._looked = now
+        return self._look_at_whole_rate(now) + self._look_at_flow(now)
+
+    def _look_at_whole_rate(self, now: float) -> list[ClockFinding]:
+        """The rate over the last seconds, however octets flow."""
+        if now - self._last > PAUSE:
+            self.rate.clear()
+        elif self.rate.look(now, now - self._began - self.octets / OCTETS_A_SECOND if self._low is None else self._low):
+            return [ClockFinding('wrong rate' if self.rate.is_wrong else 'right rate', self.rate.ratio or 0.0)]
+        return []
+
+    def _look_at_flow(self, now: float) -> list[ClockFinding]:
+        """Octets that were lost or came too early, and the rate of a clock, where octets flow steadily."""
         if self._low is not None:
             self._lows.append(self._low)
             self._low = None
@@ -113,4 +164,6 @@ class Clock:
     def status(self) -> dict[str, Any]:
         """All of it, as plain values."""
         return {'gaps': self.gaps, 'gap_seconds': round(self.lost_seconds, 3),
-                'ppm': None if self.ppm is None else round(self.ppm, 1)}
+                'ppm': None if self.ppm is None else round(self.ppm, 1),
+                'rate': None if self.rate.ratio is None else round(self.rate.ratio, 4),
+                'rate_wrong': self.rate.is_wrong}

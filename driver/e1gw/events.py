@@ -246,6 +246,25 @@ class RateChanged(Event):
     ppm: float
 
 
+@dataclass(frozen=True)
+class WrongRate(Event):
+    """Octets do not come at their rate, or do so again."""
+
+    name = 'wrong rate'
+    on: bool
+    percent: float
+
+    def level(self) -> Level:
+        return Level.WARNING if self.on else Level.NOTICE
+
+    def alarm(self) -> tuple[str, bool]:
+        return self.name, self.on
+
+    def words(self) -> str:
+        what = self.name if self.on else 'right rate again'
+        return f'{what}: {self.percent:.2f} % of the octets of the last seconds came'
+
+
 # ---- what carries and watches the trunk ----
 
 @dataclass(frozen=True)

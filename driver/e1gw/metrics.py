@@ -13,7 +13,7 @@ Status = Mapping[str, Any]
 Labels = Mapping[str, object]
 Samples = Iterable[tuple[Labels, float | int]] | float | int
 
-ALIGNED, NOT_OPEN = 'aligned', 'not open'
+ALIGNED, NOT_OPEN, WRONG_RATE = 'aligned', 'not open', 'wrong rate'
 BLOCK_WORDS = {'blocked': 'blocked by the operator', 'blocking': 'blocking, until their calls have ended'}
 TRANSPORT = 'e1gw_transport'        # of what a transport tells, its own names and kinds
 # A number of each circuit's row: its name, what it is, its key, and how many of its units are one.
@@ -83,6 +83,8 @@ def _of_flow(status: Status, clock: Status) -> list[Family]:
     found: list[Family] = []
     if 'gaps' in clock:
         found.append(('e1gw_trunk_gaps_total', 'Slips, at which octets of the trunk were lost.', clock['gaps']))
+    if clock.get('rate') is not None:
+        found.append(('e1gw_trunk_rate_ratio', 'The part of the octets of the last seconds that came.', clock['rate']))
     if clock.get('ppm') is not None:
         found.append(('e1gw_trunk_rate_ppm', 'The rate relative to this machine\'s clock, over a minute.',
                       clock['ppm']))
@@ -168,7 +170,7 @@ def head_of(status: Status) -> list[str]:
     at = time.strftime('%H:%M:%S', time.gmtime(status['time']))
     lines = [
         f'trunk {status["name"]}, e1gw {status["version"]}, '
-        + (NOT_OPEN if status.get('fault') else f'up {status["uptime"]:.0f} s'),
+        + (NOT_OPEN if status.get('fault') else f'up {status["uptime"]:.0f} s{_rate(clock)}'),
         f'{status["octets"] / 256_000:.1f} s of the trunk at {at} UTC, {state_of(status)}; the other end: '
         + _far_end(status),
         'alignment lost: ' + ', '.join(f'{what} {n}' for what, n in status['losses'].items())
@@ -193,6 +195,13 @@ def block_words(rows: Iterable[Status]) -> str:
     """Which of these circuits the operator has blocked; nothing without any."""
     its = {what: [row['circuit'] for row in rows if row.get('blocked') == what] for what in BLOCK_WORDS}
     return '; '.join(f'{BLOCK_WORDS[what]}: {circuit_words(circuits)}' for what, circuits in its.items() if circuits)
+
+
+def _rate(clock: Status) -> str:
+    """The rate over the last seconds, if it is known."""
+    if clock.get('rate') is None:
+        return ''
+    return f', {WRONG_RATE if clock["rate_wrong"] else "rate"} {100 * clock["rate"]:.2f} %'
 
 
 def _slips(clock: Status) -> str:

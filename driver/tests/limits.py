@@ -15,11 +15,12 @@ LONG = 900.0                # seconds
 # Where the follower tells of each command an answer waits for that. (A follower that comes meanwhile may not.)
 TELLS = {'watcher.connection.PATIENCE': LONG}
 # Octets come when a test gives them, and by no clock: a flow that is never steady has no gap, behind which calls are
-# restarted. (A test that had taken ten seconds longer than its trunk found one.) Nor is a version tried for a minute.
+# restarted (a test that had taken ten seconds longer than its trunk found one), and one that is never looked at for so
+# long no rate. Nor is a version tried for a minute.
 # Files of a ring are of a second there, and of each program: more of them are kept than of hours. What draws and what
 # keeps has its share of a loaded machine.
 STARTED: dict[str, Any] = {
-    'clock.STEADY': 0.0, 'holder.decisions.TRIED': LONG, 'holder.decisions.MOST_LINE_PAUSE': 0.01,
+    'clock.STEADY': 0.0, 'clock.LEAST': LONG, 'holder.decisions.TRIED': LONG, 'holder.decisions.MOST_LINE_PAUSE': 0.01,
     'recording_ring.MOST_OWN': 1000,
     **dict.fromkeys(('watcher.pages.put_behind', 'watcher.recordings.put_behind'), lambda *_: None)}
 LIMITS: dict[str, Any] = {

@@ -7,6 +7,7 @@ from .properties import PropertyCase
 from e1gw.clock import DRIFT, STEADY, TICK, Clock, ClockFinding
 
 RECORD = 0.004
+WRONG_AND_RIGHT = ['wrong rate', 'right rate']
 BURSTS = [('quiet', 0.06), ('at_once', 0.06), ('go', 0.04)] * 10
 
 
@@ -29,6 +30,12 @@ class ClockedTrunk:
         """Nobody looks for so long, and then one does."""
         self.now += seconds
         self.found += self.clock.look(self.now)
+        self._look = self.now + TICK
+
+    def overtaken(self, seconds: float) -> None:
+        """Octets of this time are not seen."""
+        self.now += seconds
+        self.clock.missed()
         self._look = self.now + TICK
 
     def at_once(self, seconds: float) -> None:
@@ -66,6 +73,7 @@ class ClockTests(unittest.TestCase):
                 trunk = ClockedTrunk(gap)
                 for what, seconds in steps:
                     getattr(trunk, what)(seconds)
+                trunk.found = [each for each in trunk.found if each.what not in WRONG_AND_RIGHT]
                 self.assertEqual([finding.what for finding in trunk.found], words)
                 lost = round(sum(each.value for each in trunk.found if each.what == 'gap'), 3)
                 status = trunk.clock.status()
@@ -81,10 +89,43 @@ class ClockTests(unittest.TestCase):
             trunk.go(130 if words == [] else 70, 1 + ppm / 1e6)
             with self.subTest(ppm):
                 self.assertEqual([finding.what for finding in trunk.found], words)
+                self.assertFalse(trunk.clock.status()['rate_wrong'])
                 self.assertAlmostEqual(trunk.clock.ppm or 0.0, ppm, delta=20 if words else 5)
                 self.assertEqual(trunk.clock.status()['ppm'], round(trunk.clock.ppm or 0.0, 1))
                 for finding in trunk.found:
                     self.assertAlmostEqual(finding.value, -500, delta=20)
+
+
+    # What happens, and which rate is told to be wrong first, and then right.
+    WHOLE_RATES: dict[str, tuple[list[tuple[str, float]], list[float]]] = {
+        'a fifth': ([('fifth', 15.5)], [0.2]), 'a fifth for a while': ([('fifth', 16), ('go', 30)], [0.2, 1.0]),
+        'octets in bursts': ([('quiet', 0.472), ('at_once', 0.472), ('go', 0.04)] * 90, []),
+        'too slow': ([('slow', 25), ('go', 30)], [0.9985, 1.0]),
+        'too fast': ([('fast', 25), ('go', 30)], [1.0015, 1.0]),
+        'lost octets': ([('go', 20), ('quiet', 0.5), ('go', 40)], [0.95, 1.0]),
+        'no octets, which is told as that': ([('go', 20), ('quiet', 5), ('go', 40)], []),
+        'octets that were not seen': ([('go', 20), ('overtaken', 0.5), ('go', 40)], []),
+        'a fifth from the beginning on, for too short a time to tell': ([('fifth', 13)], []),
+        **{f'a program stands still for {seconds} s, behind {before}': (
+            [('go', before), *[('quiet', seconds), ('at_once', seconds), ('go', 1)] * 3, ('go', 30)], [])
+            for before in (13, 14, 16, 20, 21.5) for seconds in (0.1, 0.9, 5)},
+        **{f'nobody looks for {seconds} s, behind {before}': (
+            [('go', before), ('looked_late', seconds), ('go', 0.5), ('at_once', seconds), ('go', 30)], [])
+            for before in (13, 14, 16, 20, 21.5) for seconds in (0.1, 5)}}
+
+    def test_whole_rates(self) -> None:
+        """Whatever the flow; a machine that stands still is no wrong rate, if octets are made up for."""
+        for name, (steps, ratios) in self.WHOLE_RATES.items():
+            trunk = ClockedTrunk()
+            for what, seconds in steps:
+                rate = {'fifth': 0.2, 'slow': 0.9985, 'fast': 1.0015}.get(what)
+                trunk.go(seconds * rate, rate) if rate else getattr(trunk, what)(seconds)
+            found = [each for each in trunk.found if each.what in WRONG_AND_RIGHT]
+            with self.subTest(name):
+                self.assertEqual([each.what for each in found], WRONG_AND_RIGHT[:len(ratios)])
+                self.assertEqual([round(each.value, 2) for each in found], [round(each, 2) for each in ratios])
+                if len(ratios) != 1:
+                    self.assertAlmostEqual(trunk.clock.status()['rate'] or 1.0, 1.0, delta=0.0002)
 
 
 class ClockPropertyTests(PropertyCase):
@@ -110,8 +151,9 @@ class ClockPropertyTests(PropertyCase):
                     trunk.at_once(length)
                 else:
                     getattr(trunk, what)(length)
-            before = len(trunk.found)
+            before = len([each for each in trunk.found if each.what not in WRONG_AND_RIGHT])
             trunk.go(0.3)
+            trunk.found = [each for each in trunk.found if each.what not in WRONG_AND_RIGHT]
             found = sum(each.value if each.what == 'gap' else -each.value for each in trunk.found)
             self.assertLessEqual(abs(lost - found), gap + DRIFT * (trunk.now - 1000.0) + STEADY, trunk.found)
             self.assertLessEqual(len(trunk.found) - before, 2)

@@ -22,7 +22,7 @@ from e1gw.calls import CallLine
 from e1gw.ctl_all import TrunkHere, TrunkLine
 from e1gw.events import (AlarmChanged, CardAlarm, CardAlarmChanged, Connected, Crc4Change, Crc4Changed, Disconnected,
                          Event, Fed, Flows, LineChanged, NotFed, ReadEvents, RemoteAlarmChanged, Slip, SlotsChange,
-                         SlotsChanged, Stalled, TrunkLost, TrunkOpened)
+                         SlotsChanged, Stalled, TrunkLost, TrunkOpened, WrongRate)
 from e1gw.lines import Alignment, Line, Role, State
 from e1gw.metrics import NOT_OPEN
 from e1gw.watcher import pages
@@ -108,7 +108,8 @@ class PageTextTests(unittest.TestCase):
             (AlarmChanged(frame, True, 0), AlarmChanged(frame, False, 0)),
             (RemoteAlarmChanged(multiframe, True, 0), RemoteAlarmChanged(multiframe, False, 0)),
             (CardAlarmChanged(CardAlarm.RED, True), CardAlarmChanged(CardAlarm.RED, False)),
-            (Stalled(2.0), Flows(3.0)), (TrunkLost('x'), TrunkOpened('y', {})),
+            (Stalled(2.0), Flows(3.0)), (WrongRate(True, 20.0), WrongRate(False, 100.0)),
+            (TrunkLost('x'), TrunkOpened('y', {})),
             (Disconnected('program', 'x'), Connected('program')), (NotFed('x', 'y'), Fed('x', 1)),
             (SlotsChanged(SlotsChange.LOST), SlotsChanged(SlotsChange.MOVED, 3)),
             (Crc4Changed(Crc4Change.NONE, True), found), (Crc4Changed(Crc4Change.LOST, True), found),

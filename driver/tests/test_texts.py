@@ -16,7 +16,7 @@ from e1gw.addresses import HiddenAddresses
 from e1gw.events import (AlarmChanged, BlockNews, Burst, CallsCleared, CardAlarm, CardAlarmChanged, CircuitsBlocked,
                          Connected, Crc4Change, Crc4Changed, Disconnected, Event, Fed, Flows, LineChanged, NotFed,
                          RateChanged, RemoteAlarmChanged, RoleGiven, SatopChanged, Slip, SlotsChange, SlotsChanged,
-                         LogLost, Stalled, TrunkLost, TrunkOpened, WatchEnded)
+                         LogLost, Stalled, TrunkLost, TrunkOpened, WatchEnded, WrongRate)
 from e1gw.faults import Parser, checked, named, number, options_words, words_of_fault, words_of_refusal
 from e1gw.lines import Alignment, Role, State
 from e1gw.session import CommandRefusal
@@ -45,7 +45,8 @@ CARD = {'span': 2, 'red': True, 'yellow': False, 'blue': False, 'recovering': Fa
         'not_open': False, 'events': 37}
 FULL = STATUS | {
     'alarm': {'frame': False, 'multiframe': True}, 'remote_alarm': {'frame': True, 'multiframe': True}, 'stale': True,
-    'clock': {'stalled': False, 'stalls': 23, 'gaps': 26, 'gap_seconds': 27.26, 'ppm': -28.6}, 'transport': CARD,
+    'clock': {'stalled': False, 'stalls': 23, 'gaps': 26, 'gap_seconds': 27.26, 'ppm': -28.6, 'rate': 0.2038,
+              'rate_wrong': True}, 'transport': CARD,
     'crc4': CRC4, 'role': 'active', 'fed': False, 'feed_age': 29.5, 'feed_fault': 'its link', 'differs': [3, 4],
     'ended': {'json': 'no room', 'session': None}}
 
@@ -63,6 +64,7 @@ e1gw_role 1
 e1gw_fed 0
 e1gw_feed_age_seconds 29.5
 e1gw_trunk_gaps_total 26
+e1gw_trunk_rate_ratio 0.2038
 e1gw_trunk_rate_ppm -28.6
 e1gw_transport{what="span"} 2
 e1gw_transport{what="events"} 37
@@ -95,7 +97,7 @@ e1gw_ended{what="json"} 1
 e1gw_ended{what="session"} 0
 e1gw_uptime_seconds 100.0
 e1gw_build_info{version="1.2"} 1'''
-TABLE = '''trunk west, e1gw 1.2, up 100 s
+TABLE = '''trunk west, e1gw 1.2, up 100 s, wrong rate 20.38 %
 2.0 s of the trunk at 00:01:40 UTC, loss of multiframe alignment; the other end: not heard
 alignment lost: frame 21, multiframe 22; stalls 23, slips 26 (27.3 s), rate -29 ppm
 two machines: the standby is not fed: its link; configured otherwise there: circuits 3, 4
@@ -250,6 +252,8 @@ class EventAndFaultTextTests(unittest.TestCase):
             (Slip(0.5), 'slip: 0.5 s of the trunk were lost'),
             (Burst(0.5), 'burst: 0.5 s of the trunk came too early'),
             (RateChanged(250.0), "rate: +250.0 ppm relative to this machine's clock"),
+            (WrongRate(True, 20.38), 'wrong rate: 20.38 % of the octets of the last seconds came'),
+            (WrongRate(False, 100.0), 'right rate again: 100.00 % of the octets of the last seconds came'),
             (WatchEnded('json', 'no room'), 'json ended, the calls go on: no room'),
             (RoleGiven('active'), 'this machine is to be active'), (Fed('b', 'p'), 'fed by b, program p there'),
             (NotFed('b', 'w'), 'not fed by b: w'),

@@ -14,7 +14,7 @@ from . import support
 from .test_reports import BEGIN, counts, row
 from e1gw.call_names import CallNames
 from e1gw.calls import CallLog, CallsNote
-from e1gw.clock import ClockFinding
+from e1gw.clock import ClockFinding, TrunkRate
 from e1gw.events import (Burst, CallsCleared, Event, FlowChanged, Flows, RateChanged, ReadEvents, Slip, Stalled,
                          WatchEnded)
 from e1gw.lines import Role, State
@@ -24,6 +24,7 @@ from e1gw.watcher.commands import MOST_HELD, ControlPeer
 from e1gw.watcher.connection import ProgramConnection
 from e1gw.watcher.journal import NOTICE, LineFormatter
 from e1gw.watcher.missed import MissedReports
+from e1gw.watcher.page import PageNotes, body_of, parts_of
 from e1gw.watcher.pages import MOST_VISITORS, TrunkPages, WebServer
 from e1gw.session import OCTETS_A_SECOND, Command, command_record
 
@@ -72,6 +73,26 @@ class WatchEdgeTests(TrunkWatchCase):
             await asyncio.sleep(0)
             self.assertEqual([record[:2] for record in self.given], given)
             self.assertEqual(found._values()['renewed'], len(given))
+
+    async def test_a_wrong_rate(self) -> None:
+        """It is an alarm, and red in the first line, up to the right one, also behind another watcher."""
+        found = self.watched()
+        setattr(found.trunk.reader.clock, 'rate', rate := TrunkRate())
+        found.was_shown(found.shown())
+        self.assertFalse(rate.is_wrong)
+        found.flowed(ClockFinding('wrong rate', 0.2))
+        later = self.watched()
+        later.drains = mock.Mock(**{'kept.now.word.return_value': None})
+        setattr(later.trunk.reader.clock, 'rate', rate)
+        later.was_shown(found.shown())
+        self.assertTrue(rate.is_wrong)
+        for what, is_bad in ('wrong rate', True), ('right rate', False):
+            later.flowed(ClockFinding(what, 0.9985))
+            self.assertEqual(len(later._values()['alarms']), is_bad)
+            clock = {'stalls': 0, 'stalled': False, 'rate': 0.9985, 'rate_wrong': is_bad}
+            parts = parts_of(later._values() | {'clock': clock}, PageNotes((), (), None))
+            self.assertEqual('class="bad"' in body_of('state', parts['state'][:1]), is_bad)
+            self.assertIn(f'{what.replace("right ", "")} 99.85 %', parts['state'][0][0])
 
     async def test_who_fails_when_told(self) -> None:
         """It is reported where that was, the program is not blamed, and all others are told."""

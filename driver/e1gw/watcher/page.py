@@ -16,7 +16,7 @@ from ..calls import CallLine
 from ..ctl_all import TrunkHere, TrunkLine
 from ..deaf import HEARS_NOTHING, words_of_call, words_of_row
 from ..events import ReadEvent
-from ..metrics import NOT_OPEN, head_of, states_of
+from ..metrics import NOT_OPEN, WRONG_RATE, head_of, states_of
 from ..session import CIRCUITS
 from ..session_clock import second_of
 
@@ -118,7 +118,8 @@ def body_of(name: str, rows: Rows) -> str:
 def row_of(row: Sequence[str]) -> str:
     """A row of a table; one that tells of a fault is red. (The script of the page goes by the same words.)"""
     cells = ''.join(f'<td>{escape(cell)}</td>' for cell in row)
-    return f'<tr class="bad">{cells}</tr>' if any(HEARS_NOTHING in cell for cell in row) else f'<tr>{cells}</tr>'
+    is_bad = any(words in cell for cell in row for words in (HEARS_NOTHING, WRONG_RATE))
+    return f'<tr class="bad">{cells}</tr>' if is_bad else f'<tr>{cells}</tr>'
 
 
 def table_of(kind: str, caption: str, heads: Iterable[str], bodies: Iterable[str]) -> str:

@@ -20,7 +20,7 @@ from ..clock import ClockFinding
 from ..counts import DatagramCounts
 from ..deaf import DeafCalls
 from ..events import (LAST, Burst, CallsCleared, CommandGiven, Event, LineChanged, RateChanged, ReadEvent, ReadEvents,
-                      Slip, WatchEnded)
+                      Slip, WatchEnded, WrongRate)
 from ..faults import named, words_of_refusal
 from ..lines import Role, State
 from ..resyncs import Resyncs
@@ -168,6 +168,7 @@ class TrunkWatch:
                            {key: ReadEvent(words, at) for key, words, at in note.alarms})
         self._ended_calls.extend(note.ended)
         self._deaf.take_up(note.deaf)
+        self.trunk.reader.clock.rate.is_wrong = WrongRate.name in self._events.standing()
 
     def _put_call(self, line: str) -> None:
         if self.trunk.facts()['pair'].get('role') != 'standby':
@@ -210,6 +211,8 @@ class TrunkWatch:
         """What was found of the flow: octets that were lost or came too early, or another rate."""
         if finding.what == 'rate':
             return self.tell(RateChanged(round(finding.value, 1)))
+        if finding.what in ('wrong rate', 'right rate'):
+            return self.tell(WrongRate(finding.what == 'wrong rate', round(100 * finding.value, 2)))
         seconds = round(finding.value, 3)
         self.tell(Slip(seconds) if finding.what == 'gap' else Burst(seconds))
         self._restarts.want(self._lines.open_circuits(), f'{finding.what} of {seconds} s')
