@@ -90,10 +90,14 @@ class CodecChanged(Placed):
 
 @dataclass(frozen=True)
 class CommandGiven(Event):
-    name, usual = 'command', Level.SILENT
+    name, text = 'command', 'circuit {0.circuit}: {0.command} by command, until its call ends: {0.answer}'
     circuit: int
     command: str
     answer: str
+
+    def level(self) -> Level:
+        is_shown = self.command.startswith('codec ') and not self.command.endswith(' auto')
+        return Level.NOTICE if is_shown else Level.SILENT
 
 
 @dataclass(frozen=True)

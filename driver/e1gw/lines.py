@@ -96,6 +96,10 @@ class Line:
             return Command.CLEAR if self.state in IN_CALL else None
         return Command.CLEAR_BACK if self.state is State.ANSWERED else None
 
+    def has_other_codec(self) -> bool:
+        """Whether a command has given it another codec than its configuration."""
+        return (self.codec, self.payload) != self.configured
+
     def status(self, now: float) -> dict[str, Any]:
         """All that is known of it, as plain values."""
         opened = 0 if self.opened is None else now - self.opened

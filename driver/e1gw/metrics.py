@@ -15,6 +15,7 @@ Samples = Iterable[tuple[Labels, float | int]] | float | int
 
 ALIGNED, NOT_OPEN, WRONG_RATE = 'aligned', 'not open', 'wrong rate'
 BLOCK_WORDS = {'blocked': 'blocked by the operator', 'blocking': 'blocking, until their calls have ended'}
+OTHER = '*'                 # behind a codec that a command has given
 TRANSPORT = 'e1gw_transport'        # of what a transport tells, its own names and kinds
 # A number of each circuit's row: its name, what it is, its key, and how many of its units are one.
 CIRCUIT_NUMBERS = (
@@ -176,7 +177,8 @@ def head_of(status: Status) -> list[str]:
         'alignment lost: ' + ', '.join(f'{what} {n}' for what, n in status['losses'].items())
         + f'; stalls {clock["stalls"]}{_slips(clock)}']
     lines += _pair_line(status) + _card_line(status) + _crc4_line(status)
-    lines += filter(None, [deaf.words_of_rows(status['circuits']), block_words(status['circuits'])])
+    lines += filter(None, [deaf.words_of_rows(status['circuits']), block_words(status['circuits']),
+                           codec_line(status['circuits'])])
     lines += [f'ended: {what}: {why}' for what, why in status['ended'].items() if why is not None]
     if status['stale']:
         lines.append('the counts of packets are not those of now')
@@ -202,6 +204,21 @@ def _rate(clock: Status) -> str:
     if clock.get('rate') is None:
         return ''
     return f', {WRONG_RATE if clock["rate_wrong"] else "rate"} {100 * clock["rate"]:.2f} %'
+
+
+def codec_word(row: Status) -> str:
+    """The codec of a circuit, with a mark if it is not that of its configuration."""
+    return f'{row["codec"]}{OTHER * (_coding(row) != _coding(row, "configured_"))}'
+
+
+def _coding(row: Status, front: str = '') -> tuple[str, int]:
+    return row[f'{front}codec'], row[f'{front}payload']
+
+
+def codec_line(rows: Iterable[Status]) -> str:
+    """Which circuits have this mark; nothing without any."""
+    its = [row['circuit'] for row in rows if codec_word(row).endswith(OTHER)]
+    return f'codec by command, until the call ends ({OTHER}): {circuit_words(its)}' if its else ''
 
 
 def _slips(clock: Status) -> str:
@@ -249,7 +266,7 @@ def _row(status: Status, row: Mapping[str, Any]) -> str:
     sent, received = counts.pop('sent'), counts.pop('admitted')
     discarded = '; '.join(filter(None, [', '.join(f'{n} {why}' for why, n in counts.items()), deaf.words_of_row(row)]))
     return (f'{row["circuit"]:2} {row["role"]:8} {state:11} {row["sent"]:4} {row["recognised"]:3} '
-            f'{row["for"]:9.1f} {row["seizures"]:6} {row["answers"]:8} {row["open"]:9.1f}  {row["codec"]:7} '
+            f'{row["for"]:9.1f} {row["seizures"]:6} {row["answers"]:8} {row["open"]:9.1f}  {codec_word(row):8}'
             f'{row["jitter_buffer_ms"]:6g} {sent:9} {received:9} {row["lost"]:5} {row["jitter_ms"]:7.1f}  '
             f'{discarded}').rstrip()
 

@@ -72,6 +72,12 @@ class TrunkState:
         self._led.clear()
         self.seizures = {}
 
+    def configure(self, config: Mapping[str, Any]) -> None:
+        """This is the configuration of the program that tells from now on."""
+        for n, line in lines_of(config).items():
+            its = self.lines[n]
+            its.prefill, its.port, its.configured = line.prefill, line.port, line.configured
+
     def told_again(self, place: int, clock: Callable[[], float]) -> TrunkState:
         """What is told of these lines, from this place on, by another one that tells, with counts of its own."""
         again = TrunkState({}, self.tell, DatagramCounts(), clock)

@@ -143,20 +143,19 @@ class PlayedFrontEndTests(unittest.IsolatedAsyncioTestCase):
         self.assertEqual(self.trunk.said[-1], 'SIP/2.0 200 OK')
 
     async def test_the_codec_of_the_answer(self) -> None:
-        """It is set before the seizure, and again only if it was changed since; a circuit that does not take it gets no
-        call."""
+        """It is set before each seizure, since it ends with the call; a circuit that does not take it gets no call."""
         await self.is_up()
         await self.sends('BYE')
         self.end.changed(1, 'idle')
         await self.sends('INVITE', 'b')
-        self.assertEqual(self.trunk.asked, ['codec 1 pcma 8', 'seize 1', 'clear 1', 'seize 1'])
+        self.assertEqual(self.trunk.asked, [*['codec 1 pcma 8 auto', 'seize 1', 'clear 1'], 'codec 1 pcma 8 auto',
+                                            'seize 1'])
         self.end.changed(1, 'idle')
-        self.end.told({'event': 'codec', 'circuit': 1, 'codec': 'g726-32', 'payload': 96})
         await self.done()
         self.trunk.asked.clear()
-        self.trunk.refused = {'codec 1 pcma 8'}
+        self.trunk.refused = {'codec 1 pcma 8 auto'}
         await self.sends('INVITE', 'c')
-        self.assertEqual(self.trunk.asked, ['codec 1 pcma 8', 'codec 2 pcma 8', 'seize 2'])
+        self.assertEqual(self.trunk.asked, ['codec 1 pcma 8 auto', 'codec 2 pcma 8 auto', 'seize 2'])
 
     async def test_a_call_without_rtp_ends(self) -> None:
         """After 30 s from the answer, or from the last packet; its peer gets a BYE, and the circuit another call."""

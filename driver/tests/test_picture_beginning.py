@@ -163,7 +163,7 @@ class WhyTests(RingCase):
         for circuit in 3, 4:
             made.call(circuit, 0.1, 3.8)
         wrong, good = (PictureSender(3, 0.3, 1.0, kind=3), PictureSender(3, 2.2, 3.8, kind=0),
-                       PictureSender(4, 0.25, 3.8)), 'No fault found.'
+                       PictureSender(4, 0.25, 3.8, payload=b'\xd5' * 160)), 'No fault found.'
         self.keep(made.plus(*wrong), 1.0)
         last = sorted(os.path.join(self.ring, name) for name in os.listdir(self.ring) if name.endswith('.e1gw'))[-1]
         os.utime(last, (BEGIN + 4.0, BEGIN + 4.0))
@@ -173,4 +173,5 @@ class WhyTests(RingCase):
         self.assertRegex('\n'.join(lines[1:]), r'^circuit 3: (\d+) of \1 packets were discarded as PayloadType: type 0 '
                          r'came, the circuit has 8\n    the sender has the other law')
         self.assertEqual((good in lines, others[-1]), (False, good))
+        self.assertIn('    harmless: the far end is silent', others)
         self.assertFalse([line for line in others if 'circuit 3' in line])

@@ -28,7 +28,8 @@ ROW: dict[str, Any] = {
     'circuit': 7, 'role': 'incoming', 'state': 'answered', 'sent': '01', 'recognised': '00', 'for': 12.34,
     'seizures': 5, 'answers': 4, 'unacknowledged': 3, 'faults': 2, 'open': 67.89, 'codec': 'g726-32',
     'jitter_buffer_ms': 40.0, 'datagrams': {'sent': 101, 'admitted': 102, 'Late': 6, 'Full': 8}, 'lost': 9,
-    'jitter_ms': 1.2344, 'blocked': None, 'deaf': None,
+    'jitter_ms': 1.2344, 'blocked': None, 'deaf': None, 'payload': 96, 'configured_codec': 'g726-32',
+    'configured_payload': 96,
     'socket': {'waiting': 13, 'dropped': 14}}
 IDLE: dict[str, Any] = ROW | {'circuit': 8, 'state': 'idle', 'datagrams': {'sent': 0, 'admitted': 0}, 'socket': None}
 # (86,400 s and some: 1970-01-02 00:01:40 UTC)
@@ -300,7 +301,7 @@ class EventAndFaultTextTests(unittest.TestCase):
                 self.assertEqual(options_words(), words)
                 with self.assertRaises(SystemExit), contextlib.redirect_stderr(io.StringIO()) as said:
                     Parser('a').error('b')
-                self.assertEqual(said.getvalue().splitlines()[-1], f'a: error: b{words}')
+                self.assertEqual(said.getvalue().splitlines()[-1], f'a: error: b; see a --help{words}')
         for read, text, value in ((number(1, 3), '1', 1), (number(1, 3), '3', 3), (number(0, 1, float), '0.5', 0.5),
                                   (checked(int), '7', 7)):
             self.assertEqual(read(text), value)

@@ -88,12 +88,12 @@ class CodecChangesTests(unittest.TestCase):
         made.give(1, State.ANSWERED)
         made.give(1, State.CLEAREDBACK)
         made.give(1, State.IDLE)
-        self.assertEqual(self.asked, ['codec 1 pcma 8', 'codec 1 g726-16 96'])
+        self.assertEqual(self.asked, ['codec 1 pcma 8 auto', 'codec 1 g726-16 96 auto'])
         made.stands({'circuit': 1, 'codec': 'pcmu', 'payload': 0})
         made.stands({'circuit': 9, 'codec': 'pcmu', 'payload': 0})
         made.give(1, State.IDLE)
         made.give(1, State.ANSWERED)
-        self.assertEqual(self.asked[2:], ['codec 1 pcma 8', 'codec 1 g726-16 96'])
+        self.assertEqual(self.asked[2:], ['codec 1 pcma 8 auto', 'codec 1 g726-16 96 auto'])
         self.assertEqual(self.events, [CodecGiven(1, 'pcma', 8, 'done'), CodecGiven(1, 'g726-16', 96, 'not now'),
                                        CodecGiven(1, 'pcma', 8, 'done'), CodecGiven(1, 'g726-16', 96, 'done')])
         self.assertEqual(self.looked, [1] * 4)
@@ -108,7 +108,7 @@ class CodecChangesTests(unittest.TestCase):
         made.give(1, State.IDLE)
         self.is_up, self.answers[:1] = True, ['']
         made.give(1, State.IDLE)
-        self.assertEqual((self.asked, self.events, self.looked), (['codec 1 pcma 8'], [], []))
+        self.assertEqual((self.asked, self.events, self.looked), (['codec 1 pcma 8 auto'], [], []))
         made.give(1, State.IDLE)
         self.assertEqual(self.looked, [1])
         made.begin({'law': 'mu', 'circuits': []})       # (another trunk)
@@ -134,7 +134,7 @@ class CodecChangesTests(unittest.TestCase):
     def test_leave(self) -> None:
         made = self.changes(c1=G726, c2=G726, c3=Coding('pcmu', 0), c4=G726)
         asyncio.run(made.leave([1, 3, 4, 5]))
-        self.assertEqual(self.asked, ['codec 1 g726-16 96', 'codec 4 g726-16 96'])
+        self.assertEqual(self.asked, ['codec 1 g726-16 96 auto', 'codec 4 g726-16 96 auto'])
         made.give(2, State.IDLE)
         self.assertEqual((len(self.asked), self.looked), (2, [1, 4]))
         self.is_up = False

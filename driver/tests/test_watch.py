@@ -82,7 +82,7 @@ class WatchEdgeTests(TrunkWatchCase):
         self.assertFalse(rate.is_wrong)
         found.flowed(ClockFinding('wrong rate', 0.2))
         later = self.watched()
-        later.drains = mock.Mock(**{'kept.now.word.return_value': None})
+        later.blocks = mock.Mock(**{'kept.now.word.return_value': None})
         setattr(later.trunk.reader.clock, 'rate', rate)
         later.was_shown(found.shown())
         self.assertTrue(rate.is_wrong)

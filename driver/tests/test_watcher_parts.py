@@ -65,7 +65,7 @@ class WatchNoteTests(unittest.TestCase):
                 {'errored': 1}, None, {}), SlotsNote(False, 1, 2, 3)), 8, 1),
             ReadingNote(1, 2, 3, ((4, 5.0),), 6.0),
             ToldNote(True, 1.0, (True, False) * 2, (1, 2), Flow(1, 2.0, 3.0, 4)),
-            ShownNote((('trunk open', 1.0),), (('alarm frame', 'LFA', 2.0),), ('a,b',)), {1: 'BLOCKED'},
+            ShownNote((('trunk open', 1.0),), (('alarm frame', 'LFA', 2.0),), ('a,b',)), {1: 'BLOCKED'}, {3: 7},
             RecordingNote('s', 60, '', (('a', 1),), 'p', 1, 2, 3, 4),
             CallsNote(1, 2.0, {1: ('idle', 3, 4.0)}, (CallRecord(1, 2.0, 3),), {1: {'sent': 5}}, ('line',)))
         self.assertEqual(note_in(note.text()), note)

@@ -97,7 +97,7 @@ class CodecChanges:
                 self._trunk.begin(self._change(n, circuit, wanted))
 
     async def _change(self, n: int, circuit: CircuitCoding, coding: Coding) -> None:
-        answer = await self._trunk.answer(f'codec {n} {coding.codec} {coding.payload}')
+        answer = await self._trunk.answer(f'codec {n} {coding.codec} {coding.payload} auto')
         circuit.is_changing = False
         if answer is None:
             return

@@ -108,6 +108,9 @@ class Tie:
         match event:
             case {'event': 'state', 'circuit': n, 'was': was, 'state': state}:
                 self._state(n, State(was), State(state))
+            case {'event': 'codec', 'circuit': n}:
+                self.codecs.stands(event)
+                self._look(n)
             case {'event': 'alarm' | 'remote alarm', 'on': True} | {'event': 'trunk lost' | 'stalled'}:
                 self._set_out_of_service(True)
 

@@ -6,7 +6,8 @@ A line is answered by one or more lines and an empty one:
   block N, block N now       the operator takes N, or all of N-M, out of service: at the end of its call, or now
   unblock N                  takes that back
   block N auto, unblock N auto    the same by a program: of an idle incoming circuit, not kept, and no operator's
-  codec N CODEC TYPE         pcma, pcmu, g726-16, g726-24, g726-32, g726-40 and an RTP payload type, from now on
+  codec N CODEC TYPE         pcma, pcmu, g726-16, g726-24, g726-32, g726-40 and an RTP payload type, until its call,
+                             or the next one, ends; behind them `auto`, if a program gives it
   status, status json        the table, or all of it as one line of JSON
   status N                   the row of circuit N
   events                     `following`; from then on a line of JSON for each change
@@ -33,6 +34,7 @@ from typing import TYPE_CHECKING
 from ..events import WatchEnded
 from ..metrics import circuit_table
 from ..session import Codec, Command, circuit_of, circuits_of, codec_record
+from .blocks import DONE
 from .decisions import who_goes
 from .events import json_line
 from .tasks import Tasks
@@ -142,7 +144,9 @@ class CommandServer:
                 return await self._obey_circuit(name, [word])
             case ['quit']:
                 return await self._trunk.trunk.ends()
-            case [name, *rest] if name in COMMANDS or name == 'codec':
+            case ['codec', *rest]:
+                return await self._obey_codec(rest)
+            case [name, *rest] if name in COMMANDS:
                 return await self._obey_circuit(name, rest)
         return (f'{words[0][:40]}: no such command; there are {", ".join(COMMANDS)}, codec, status, events, '
                 ' role, promote, demote, move, reload, quit and help')
@@ -160,26 +164,34 @@ class CommandServer:
         return '\n'.join(f'{front}{line}' for line in told)
 
     async def _obey_circuit(self, name: str, words: list[str]) -> str:
-        trunk = self._trunk
-        if len(words) != (3 if name == 'codec' else 1):
-            return f'{name}: wants ' + ('a circuit, a codec and a payload type' if name == 'codec' else 'a circuit')
+        trunk, command = self._trunk, COMMANDS[name]
+        if len(words) != 1:
+            return f'{name}: wants a circuit'
         circuit = circuit_of(words[0])
         if not circuit:
             return f'{name} {words[0][:40]}: circuits are 1 to 30'
         front = f'{name} {circuit}: '
-        if name == 'codec':
-            if fault := codec_fault(words[1:], trunk.status.lines.law):
-                return front + fault
+        # (No exchange could see a seizure in an outage, and 200 ms later it would be released.)
+        outage = trunk.status.outage() if command is Command.SEIZE else None
+        if fault := trunk.blocks.refusal(circuit, command) or outage:
+            trunk.count(circuit, name, fault)
+            return front + fault
+        return front + await trunk.give(circuit, command)
+
+    async def _obey_codec(self, words: list[str]) -> str:
+        trunk = self._trunk
+        if len(words) < 3 or words[3:] not in ([], ['auto']):
+            return 'codec: wants a circuit, a codec and a payload type'
+        circuit = circuit_of(words[0])
+        if not circuit:
+            return f'codec {words[0][:40]}: circuits are 1 to 30'
+        fault = codec_fault(words[1:3], trunk.status.lines.law)
+        if not fault:
             record = codec_record(circuit, CODECS[words[1]], int(words[2]))
-        else:
-            command = COMMANDS[name]
-            # (No exchange could see a seizure in an outage, and 200 ms later it would be released.)
-            outage = trunk.status.outage() if command is Command.SEIZE else None
-            if fault := trunk.blocks.refusal(circuit, command) or outage:
-                trunk.count(circuit, name, fault)
-                return front + fault
-            return front + await trunk.give(circuit, command)
-        return front + await trunk.command(record, circuit, ' '.join([name, *words[1:]]))
+            fault = await trunk.command(record, circuit, ' '.join(['codec', *words[1:]]))
+            if fault == DONE:
+                trunk.codecs.was_given(circuit)
+        return f'codec {circuit}: {fault}'
 
 
 def codec_fault(words: list[str], law: str) -> str | None:

@@ -124,6 +124,7 @@ class Watcher:
             watch.take_up(note.calls)
         kept = watch.blocks.kept
         kept.now = blocks_told(kept.now, note.blocks)
+        watch.codecs.given = note.codecs
 
     def note(self) -> None:
         """Notes what the next watcher goes on with."""
@@ -131,7 +132,7 @@ class Watcher:
         with goes_on('the note for the next watcher'):
             blocks = {n: each.name for n, each in watch.blocks.kept.now.circuits.items()}
             text = WatchNote(self._trunk.noted(), reader.noted(), watch.status.told(), watch.shown(), blocks,
-                             reader.recording_note(), watch.status.calls_note()).text()
+                             watch.codecs.given, reader.recording_note(), watch.status.calls_note()).text()
             try:
                 self._notes.put(text)
             except FileNotFoundError:           # (the trunk has ended, or its folder is made again)

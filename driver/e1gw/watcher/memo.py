@@ -20,13 +20,14 @@ VERSION = 1
 
 @dataclass(frozen=True)
 class WatchNote:
-    """What is noted; of each circuit that the operator has blocked, how far it is."""
+    """What is noted; of each circuit that the operator has blocked, how far it is; of codecs what CodecWatch says."""
 
     held: HeldNote
     read: ReadingNote
     told: ToldNote
     shown: ShownNote
     blocks: dict[int, str]
+    codecs: dict[int, int]
     recording: RecordingNote | None
     calls: CallsNote | None
 

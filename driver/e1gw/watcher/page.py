@@ -16,7 +16,7 @@ from ..calls import CallLine
 from ..ctl_all import TrunkHere, TrunkLine
 from ..deaf import HEARS_NOTHING, words_of_call, words_of_row
 from ..events import ReadEvent
-from ..metrics import NOT_OPEN, WRONG_RATE, head_of, states_of
+from ..metrics import NOT_OPEN, WRONG_RATE, codec_word, head_of, states_of
 from ..session import CIRCUITS
 from ..session_clock import second_of
 
@@ -80,7 +80,7 @@ def circuit_row(status: Mapping[str, Any], row: Mapping[str, Any], calls: Mappin
         return [*cells, '', '', '', '']
     begin = call['seized'] or call['answered']
     age = status['time'] - second_of(begin) if begin else row['for']
-    return [*cells, length(age), row['codec'], call['lost'], f'{row["jitter_ms"]:.1f}']
+    return [*cells, length(age), codec_word(row), call['lost'], f'{row["jitter_ms"]:.1f}']
 
 
 def ended_row(line: str, kept: str | None) -> list[str]:

@@ -241,7 +241,9 @@ class TrunkStatus:
         """There is a connection, at which a program, whose session has this name, tells the state at an octet."""
         self._session = session
         with suppress(OSError, ValueError, KeyError, TypeError):
-            before, self._tables = self._tables, tables_of(read_config(self._trunk.config_path()))
+            config = read_config(self._trunk.config_path())
+            self.lines.configure(config)
+            before, self._tables = self._tables, tables_of(config)
             self.calls.changed = frozenset(n for n in CIRCUITS if before.get(n) != self._tables.get(n))
         await self._catch_up(place)
         self._flow, self._line = replace(self._flow, moved=time.monotonic()), line

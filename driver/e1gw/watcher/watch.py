@@ -28,6 +28,7 @@ from ..session import Codec, Command, codec_record, command_record
 from .commands import MOST_LINE, CannotListen, CommandServer, unix_listener
 from .connection import NoAnswer, ProgramConnection
 from .blocks import BlockWatch
+from .codecs import CodecWatch
 from .events import EventFile, json_line, tell_journal
 from .journal import NOTICE
 from .page import PageNotes
@@ -92,6 +93,7 @@ class TrunkWatch:
                                 PageNotes(self._events.last, self._ended_calls, wants.kept))
         self._server = CommandServer(self)
         self.blocks = BlockWatch(trunk.blocks(), self._lines, self.give, self.tell)
+        self.codecs = CodecWatch(self._lines, self.give_codec, self.blocks.busy, lambda: self.status.changed())
         self.status.is_followed = lambda: bool(self._server.followers() or self.blocks.kept.now.left())
         self.status.waiting = lambda: [*islice(self._calls.waiting, NOTED)] if self._calls else []
         self.disconnects = DisconnectWatch(on_loss_of(wants.on_loss), self.clear_all)
@@ -119,6 +121,12 @@ class TrunkWatch:
     async def give(self, circuit: int, command: Command) -> str:
         return await self.command(command_record(circuit, command), circuit, command.word)
 
+    async def give_codec(self, circuit: int, codec: str, payload: int) -> str:
+        return await self.command(self._codec_record(circuit, codec, payload), circuit, f'codec {codec} {payload} auto')
+
+    def _codec_record(self, circuit: int, codec: str, payload: int) -> bytes:
+        return codec_record(circuit, next(each for each in Codec if each.word(self._lines.law) == codec), payload)
+
     def count(self, circuit: int, words: str, text: str) -> None:
         self._done[words.split()[0], text] += 1
         self.tell(CommandGiven(circuit, words, text))
@@ -141,8 +149,7 @@ class TrunkWatch:
         """Gives open circuits the codec that they have, which restarts their playout."""
         for n in circuits:
             line = self._lines.lines[n]
-            codec = next(each for each in Codec if each.word(self._lines.law) == line.codec)
-            self._tasks.begin(self._renew(codec_record(n, codec, line.payload)))
+            self._tasks.begin(self._renew(self._codec_record(n, line.codec, line.payload)))
         self._resyncs += len(circuits)
 
     async def _renew(self, record: bytes) -> None:
@@ -186,6 +193,7 @@ class TrunkWatch:
             self._loop.call_soon(self.blocks.look)
             if event.state is not State.ANSWERED:
                 self._deaf.ended(event.circuit)
+            self._loop.call_soon(self.codecs.look)
         for hears in tell_journal, self._show, self._tell_followers:
             guarded(hears, WATCH)(event)
 
@@ -301,6 +309,7 @@ class TrunkWatch:
         self._restarts.look(now, self._lines.place, self._lines.open_circuits(), not self.counts.stale())
         self.disconnects.look(now)
         self.blocks.look()
+        self.codecs.look()
         self._outages.look(now, self.status.outage())
 
     def goes_on(self) -> None:

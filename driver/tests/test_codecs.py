@@ -1,0 +1,66 @@
+"""Codecs that are given by command: each ends with its call."""
+from __future__ import annotations
+
+import os
+import signal
+import unittest
+from types import SimpleNamespace
+from typing import Any, cast
+from unittest import mock
+
+from . import support
+from .test_trunk import aligned, call
+from .world import World, config_of
+from e1gw.lines import IN_CALL, Line, Role, State
+from e1gw.watcher.codecs import CodecWatch, codecs_over
+
+
+class CodecsOverTests(unittest.TestCase):
+    def test_what_is_over(self) -> None:
+        """Another codec than the configuration's, in no call, unless it was given between calls and none was since."""
+        for state in State:
+            for codec, payload in ('pcma', 8), ('g726-32', 96), ('pcma', 9):
+                for seizures in None, 4, 5:
+                    line = Line(3, Role.OUTGOING, codec, payload, state=state, seizures=5)
+                    given = {} if seizures is None else {3: seizures}
+                    is_over = state not in IN_CALL and (codec, payload) != ('pcma', 8) and seizures != 5
+                    self.assertEqual(codecs_over([line], given), [3] * is_over, line)
+
+    def test_when_one_was_given(self) -> None:
+        """In a call nothing has to be known of it."""
+        lines = {n: Line(n, state=state, seizures=n) for n, state in ((1, State.IDLE), (2, State.ANSWERED))}
+        noted = mock.Mock()
+        watch = CodecWatch(cast(Any, SimpleNamespace(lines=lines)), cast(Any, None), lambda: (), noted)
+        for n in lines:
+            watch.was_given(n)
+        self.assertEqual((watch.given, noted.call_count), ({1: 1}, 1))
+
+
+class CodecOfACallTests(unittest.TestCase):
+    def test_one_trunk(self) -> None:
+        """In a call, and before one, also if program and watcher die: it is marked, and ends with the call."""
+        world = World(config_of(range(1, 3)))
+        self.addCleanup(world.__exit__)
+
+        def codecs() -> list[str]:
+            return [row['codec'] for row in world.told()['circuits'][:2]]
+        aligned(world)
+        call(world, 1)
+        for n in 1, 2:
+            self.assertEqual(world.ask(f'codec {n} g726-32 96'), f'codec {n}: done')
+        self.assertRegex(world.ask('status'),
+                         r'\ncodec by command, until the call ends \(\*\): 1-2\n(.*\n)+.* g726-32\*')
+        self.assertEqual(world.ask('codec 1 pcma 8 x'), 'codec: wants a circuit, a codec and a payload type')
+        os.kill(world.watcher(), signal.SIGKILL)        # (e1gw-trunk starts another one)
+        world.connected()
+        world.kill('trunk')
+        world.connected()
+        self.assertEqual(codecs(), ['g726-32'] * 2)
+        self.assertEqual(world.ask('clear 1'), 'clear 1: done')
+        world.until(lambda: codecs() == ['pcma', 'g726-32'])
+        world.until(lambda: world.state(1) == 'idle')
+        call(world, 2)
+        self.assertEqual(codecs()[1], 'g726-32')
+        self.assertEqual(world.ask('clear 2'), 'clear 2: done')
+        world.until(lambda: codecs() == ['pcma'] * 2)
+        support.until(lambda: '(*)' not in world.ask('status'))
