@@ -69,7 +69,12 @@ class KeptCase(WatcherCase):
     def all_read(self) -> None:
         """Until the watcher has read all of the log. (Of two programs that begin meanwhile it would miss the first.)"""
         given = len(octets_in(b''.join(self.given)))
-        support.until(lambda: bool(json.loads(self.ask('status json'))['octets'] >= given - self.before))
+
+        def has_read() -> bool:
+            with contextlib.suppress(OSError, EOFError):        # (a watcher that only begins does not answer yet)
+                return bool(json.loads(self.ask('status json'))['octets'] >= given - self.before)
+            return False
+        support.until(has_read)
 
     def events(self) -> list[dict[str, Any]]:
         return events_in(self.path('events'))
