@@ -79,7 +79,7 @@ class WatcherCase(HolderCase):
                 if status['program'] and holds(status):
                     return status
             self.step()
-            time.sleep(pause := min(2 * pause, 0.25))
+            time.sleep(pause := min(2 * pause, 0.02))
         raise AssertionError(not_within(holds))
 
 
