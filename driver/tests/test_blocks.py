@@ -22,7 +22,7 @@ from e1gw.ctl_all import TrunkLine
 from e1gw.exchange import IDLE, SEIZED
 from e1gw.lines import IN_CALL, Line, Role, State
 from e1gw.metrics import exposition
-from e1gw.watcher.blocks import BY_OPERATOR, BlockWatch, Blocks, KeptBlocks
+from e1gw.watcher.blocks import BY_OPERATOR, BlockWatch, BlockedCircuits, KeptBlocks
 from e1gw.session import Command
 
 ROLES = {1: Role.OUTGOING, 2: Role.INCOMING, 3: Role.INCOMING}
@@ -43,9 +43,9 @@ class KeptInMemory(KeptBlocks):
 
     def __init__(self, circuits: frozenset[int] = frozenset()) -> None:
         super().__init__('')
-        self.now = Blocks().only(circuits)
+        self.now = BlockedCircuits().only(circuits)
 
-    async def put(self, now: Blocks) -> str:
+    async def put(self, now: BlockedCircuits) -> str:
         self.now = now
         return ''
 
@@ -230,16 +230,16 @@ class KeptTests(support.FolderCase, unittest.IsolatedAsyncioTestCase):
     async def test_file(self) -> None:
         """The last one of several at once is in it; what is none, or cannot be written, ends nothing."""
         kept = KeptBlocks(self.path('blocked'))
-        told = await asyncio.gather(*(kept.put(Blocks().taken(range(1, n))) for n in (3, 31, 5)))
+        told = await asyncio.gather(*(kept.put(BlockedCircuits().taken(range(1, n))) for n in (3, 31, 5)))
         self.assertEqual((told, json.loads(support.text_of(self.path('blocked')))), ([''] * 3, [1, 2, 3, 4]))
         self.assertEqual([*KeptBlocks(self.path('blocked')).now.circuits], [1, 2, 3, 4])
         with mock.patch.object(os, 'fsync') as synced:
-            await kept.put(Blocks())
+            await kept.put(BlockedCircuits())
         self.assertTrue(synced.called, 'a crash of the machine empties the file')
         for octets in (b'', b'7', b'{"1": 2}', b'[1', b'[31, "a"]', b'\xff'):
             with mock.patch('e1gw.watcher.blocks.logger'):
                 self.assertEqual(KeptBlocks(self.write('bad', octets)).now.circuits, {}, octets)
-        self.assertRegex(await KeptBlocks(self.path('none/blocked')).put(Blocks()), 'none/blocked.*: No such file')
+        self.assertRegex(await KeptBlocks(self.path('none/blocked')).put(BlockedCircuits()), 'none/blocked.*: No such file')
 
 
 class BlockedTrunkTests(unittest.TestCase):

@@ -86,8 +86,8 @@ class Told(io.StringIO):
         self.lines.append(self.getvalue().count('\n'))
 
 
-class CtlAnswerTests(support.FolderCase):
-    """What is printed of answers, and the status, by trunks that answer what a test gives."""
+class CtlAnswerCase(support.FolderCase):
+    """Tests of what is printed of answers, and the status, by trunks that answer what a test gives."""
 
     def setUp(self) -> None:
         super().setUp()
@@ -117,6 +117,8 @@ class CtlAnswerTests(support.FolderCase):
             ctl.main(patience)
         return ended.exception.code, self.told.getvalue().splitlines(), err.getvalue()
 
+
+class CtlAnswerTests(CtlAnswerCase):
     def test_one_trunk(self) -> None:
         """0 where all was done, 1 where something was refused or not answered; questions are done once answered. Half
         an answer is one."""
@@ -180,6 +182,10 @@ class CtlAnswerTests(support.FolderCase):
             for words, told in (('--all reload', 'east: '), ('west reload', '')):
                 status, lines, said = self.ctl(*words.split(), patience=0.05)
                 self.assertEqual((status, 'no answer within 0.15 s' in ''.join([*lines, said])), (1, True), told)
+
+
+class CtlOwnCommandTests(CtlAnswerCase):
+    """What e1gw-ctl does by itself."""
 
     def test_calls(self) -> None:
         """Those that have ended, of a file and the one before it, whose last line may be torn, and then those that go

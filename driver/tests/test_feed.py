@@ -22,7 +22,7 @@ from .logs import WrittenLog
 from e1gw.events import Event, Fed, NotFed
 from e1gw.holder_state import TrunkPlaces
 from e1gw.watcher import standby
-from e1gw.watcher.blocks import Blocks, KeptBlocks
+from e1gw.watcher.blocks import BlockedCircuits, KeptBlocks
 from e1gw.watcher.feed import BACK, CARRIES, LENGTH, MARK, MOST_PIECE, PIECE, STATE, TAKES, FeedServer
 from e1gw.log_folder import STATE_ROOM, LogPair
 from e1gw.watcher.missed import passed
@@ -95,7 +95,7 @@ class FeedTests(support.LoopCase):
         self.assertEqual((its.fed.number(), its.fed.folder), (5 + its.fed.octets // 1000, self.path('standby/fed')))
         last = its.last()
         self.assertEqual(last and (last.state, len(last.records)), (b'state', MULTIFRAME + 4))
-        self.blocks.now = Blocks().taken((2, 30))
+        self.blocks.now = BlockedCircuits().taken((2, 30))
         self.log.multiframe()
         self.log.turns()
         self.log.multiframe()

@@ -6,16 +6,20 @@ import socket
 import unittest
 import urllib.request
 from typing import Iterable, Iterator
+from unittest import mock
 
 from . import support
 from .picture_made import read_session, rtp
 from .properties import PropertyCase
 from .shown import ShownTables
+from .test_reports import BEGIN, row
 from .test_trunk import aligned, call
+from .test_watch import TrunkWatchCase
 from .world import World
-from e1gw.calls import read_calls
+from e1gw.calls import CallLine, read_calls
 from e1gw.ctl_all import TrunkLine
 from e1gw.lost import AHEAD, IN_A_ROW, WINDOW, ReceivedNumbers
+from e1gw.session import datagram_record
 from e1gw.testing.ports import free_port, free_ports
 
 COUNT, FIRST = 120, 65_500          # packets of a call, and the first number
@@ -84,6 +88,20 @@ class ReceivedNumberTests(PropertyCase):
             self.st.tuples(self.st.integers(0, 20), self.st.booleans()), max_size=80))
 
 
+class CountedToTheEndTests(TrunkWatchCase):
+    async def test_what_came_up_to_the_end(self) -> None:
+        """Is read in the log before a call has its line."""
+        found = self.watched()
+        found.blocks = mock.Mock()
+        setattr(found.status, 'tell', found.tell)
+        found._lines.begin(0)
+        found._lines.take('\n'.join([*BEGIN, row(3, 'answered', '00 01'), 'now', '']).encode())
+        news = [b''.join(datagram_record(3, rtp(number, 0, 7)) for number in (5, 6, 9))]
+        setattr(found.trunk.reader, 'read', lambda: found.counts.take_records(news.pop() if news else b''))
+        found._lines.take(f'{row(3, "releasing")}\n'.encode())
+        self.assertEqual(CallLine(*found.status.calls.lines[0].split(',')).lost, '2')
+
+
 # ---- one session with each kind of fault ----
 
 def plan(without: Iterable[int], **at: int) -> Iterator[tuple[int, int, int, int]]:
@@ -95,7 +113,7 @@ def plan(without: Iterable[int], **at: int) -> Iterator[tuple[int, int, int, int
 def stranger() -> Plan:
     """A second source, with numbers of its own, some of which are missing."""
     yield from plan({12, 80})
-    yield from ((n, 20_000 + 7 * n, 9, 8) for n in range(5, COUNT, 2))
+    yield from ((n, 1000 + 7 * n, 9, 8) for n in range(5, COUNT, 2))
 
 
 # Each circuit has a fault, and why packets are discarded then.

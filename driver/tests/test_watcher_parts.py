@@ -17,7 +17,7 @@ from e1gw.session import MULTIFRAME, trunk_record
 from e1gw.slots import SlotsNote
 from e1gw.watcher import door
 from e1gw.watcher.decisions import Flow
-from e1gw.watcher.blocks import BlockStage, Blocks
+from e1gw.watcher.blocks import BlockStage, BlockedCircuits
 from e1gw.watcher.held import HeldNote, events_of, fault_of, nearest, wait_of
 from e1gw.watcher.main import WatchLock, is_over, parser
 from e1gw.watcher.memo import WatchNote, blocks_told, note_in
@@ -74,7 +74,7 @@ class WatchNoteTests(unittest.TestCase):
 
     def test_blocks(self) -> None:
         """What was told of a circuit is not told again, nor of one that is no longer blocked."""
-        kept = Blocks().taken((1, 2))
+        kept = BlockedCircuits().taken((1, 2))
         self.assertEqual(blocks_told(kept, {1: 'BLOCKED', 3: 'IDLE'}).circuits,
                          {1: BlockStage.BLOCKED, 2: BlockStage.TAKEN})
         self.assertEqual(blocks_told(kept, {1: 'x'}), kept)

@@ -49,23 +49,23 @@ def stage_of(line: Line) -> BlockStage:
 
 
 @dataclass(frozen=True)
-class Blocks:
+class BlockedCircuits:
     """The circuits that the operator has taken, and how far each is."""
 
     circuits: Mapping[int, BlockStage] = field(default_factory=dict)
 
-    def taken(self, circuits: Iterable[int]) -> Blocks:
+    def taken(self, circuits: Iterable[int]) -> BlockedCircuits:
         """He takes these, too."""
-        return Blocks({**dict.fromkeys(circuits, BlockStage.TAKEN), **self.circuits})
+        return BlockedCircuits({**dict.fromkeys(circuits, BlockStage.TAKEN), **self.circuits})
 
-    def given_back(self, circuits: Container[int]) -> Blocks:
-        return Blocks({n: its for n, its in self.circuits.items() if n not in circuits})
+    def given_back(self, circuits: Container[int]) -> BlockedCircuits:
+        return BlockedCircuits({n: its for n, its in self.circuits.items() if n not in circuits})
 
-    def only(self, circuits: Collection[int]) -> Blocks:
+    def only(self, circuits: Collection[int]) -> BlockedCircuits:
         """He has taken these and no others: another machine says so."""
         return self.given_back({*CIRCUITS} - {*circuits}).taken(circuits)
 
-    def looked(self, lines: Mapping[int, Line], busy: Container[int]) -> tuple[Blocks, list[int], News]:
+    def looked(self, lines: Mapping[int, Line], busy: Container[int]) -> tuple[BlockedCircuits, list[int], News]:
         """Which circuits are given a block, as the lines stand, and news. A `busy` one has a command under way."""
         found = {n: before if n in busy else stage_of(lines[n]) for n, before in self.circuits.items()}
         news: News = {what: [] for what in BlockNews}
@@ -73,7 +73,7 @@ class Blocks:
             if before is not found[n] is not BlockStage.IDLE:
                 in_call = BlockNews.SEIZED if before is BlockStage.IDLE else BlockNews.BLOCKING
                 news[in_call if found[n] is BlockStage.IN_CALL else BlockNews.BLOCKED].append(n)
-        return Blocks(found), [n for n, now in found.items() if now is BlockStage.IDLE and n not in busy], news
+        return BlockedCircuits(found), [n for n, now in found.items() if now is BlockStage.IDLE and n not in busy], news
 
     def left(self, circuits: Iterable[int] = CIRCUITS) -> list[int]:
         """Those of these circuits that are not blocked yet."""
@@ -89,15 +89,15 @@ class KeptBlocks:
     """The same in a file, which is replaced whole. One that cannot be read or written is reported, and ends nothing."""
 
     def __init__(self, path: str) -> None:
-        self.now, self._path = Blocks(), path
+        self.now, self._path = BlockedCircuits(), path
         self._writing: asyncio.Task[str] | None = None
         try:
             with suppress(FileNotFoundError), open(path, encoding='ascii') as file:
-                self.now = Blocks().only({*CIRCUITS} & {*json.loads(file.read(4096))})
+                self.now = BlockedCircuits().only({*CIRCUITS} & {*json.loads(file.read(4096))})
         except (OSError, ValueError, TypeError) as fault:
             logger.error('which circuits the operator has blocked is not known: %s', words_of_fault(fault, path))
 
-    async def put(self, now: Blocks) -> str:
+    async def put(self, now: BlockedCircuits) -> str:
         """This is so from now on. Why it is not kept; nothing if it is."""
         self.now = now
         if not self._writing or self._writing.done():
@@ -147,7 +147,7 @@ class BlockWatch:
             self._report(news)
 
     async def _block(self, n: int) -> None:
-        """Blocks a circuit, which is busy since that was decided."""
+        """BlockedCircuits a circuit, which is busy since that was decided."""
         answer = ''
         try:
             answer = await self._give(n, Command.BLOCK)
@@ -194,6 +194,6 @@ class BlockWatch:
             return [*told, f'circuits {circuit_words(faults)}: {next(iter(faults.values()))}']
         return [*told, DONE if its or blocked else NOT_BLOCKED]
 
-    async def _kept(self, now: Blocks) -> list[str]:
+    async def _kept(self, now: BlockedCircuits) -> list[str]:
         fault = await self.kept.put(now)
         return [f'not kept: {fault}'] * bool(fault)

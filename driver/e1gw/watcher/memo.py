@@ -7,7 +7,7 @@ from contextlib import suppress
 from dataclasses import dataclass
 
 from ..calls import CallsNote
-from .blocks import BlockStage, Blocks
+from .blocks import BlockStage, BlockedCircuits
 from .held import HeldNote
 from .note import typed
 from .reader import ReadingNote
@@ -45,8 +45,8 @@ def note_in(octets: bytes) -> WatchNote | None:
     return None
 
 
-def blocks_told(now: Blocks, told: dict[int, str]) -> Blocks:
+def blocks_told(now: BlockedCircuits, told: dict[int, str]) -> BlockedCircuits:
     """The circuits that the operator has blocked, as far as was told."""
     with suppress(KeyError):
-        return Blocks({n: BlockStage[told[n]] if n in told else each for n, each in now.circuits.items()})
+        return BlockedCircuits({n: BlockStage[told[n]] if n in told else each for n, each in now.circuits.items()})
     return now

@@ -62,7 +62,6 @@ class TrunkStatus:
         self._connected = dict.fromkeys(BOTH, False)
         self._stands: bool | None = None        # whether it is connected with the program, as was told
         self._stood: bool | None = None         # .. by the process before this one
-        self._since = time.time()
         self._read = asyncio.Event()                    # reports are to be read at once
         self._line: socket.socket | None = None
         self._session = self._why = ''          # (why the last connection has ended)
@@ -70,7 +69,7 @@ class TrunkStatus:
         self.changed: Callable[[], None] = lambda: None         # called when calls have changed
         self._has_changed = False
         self._is_known = False                  # how the lines stand at the place up to which changes were told
-        self._at = time.time()                  # when that place was told
+        self._since = self._at = time.time()    # (the latter: when that place was told)
         self._is_caught_up = False              # all behind it was read in the log, up to the program's first report
         self._again = self.lines                # what tells now, and up to which octet, at which time, if it is the log
         self._until = 0, self._at
@@ -241,8 +240,7 @@ class TrunkStatus:
         """There is a connection, at which a program, whose session has this name, tells the state at an octet."""
         self._session = session
         with suppress(OSError, ValueError, KeyError, TypeError):
-            config = read_config(self._trunk.config_path())
-            self.lines.configure(config)
+            self.lines.configure(config := read_config(self._trunk.config_path()))
             before, self._tables = self._tables, tables_of(config)
             self.calls.changed = frozenset(n for n in CIRCUITS if before.get(n) != self._tables.get(n))
         await self._catch_up(place)
