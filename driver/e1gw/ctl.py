@@ -43,7 +43,7 @@ AT_ONCE = ('block', 'unblock')          # .. of which the trunk takes several at
 # The commands that have these options.
 OPTIONS = {'last': ('calls',), 'circuit': ('calls',), 'from': ('calls', 'outages'), 'to': ('calls', 'outages'),
            'csv': ('calls', 'outages'), 'page': ('outages',), 'now': ('block',), 'for': ('wait',),
-           'no-addresses': ('report',)}
+           'when-idle': ('reload',), 'no-addresses': ('report',)}
 
 
 def path_of(word: str) -> str:
@@ -174,7 +174,7 @@ def started(asked: argparse.Namespace, parser: argparse.ArgumentParser, patience
             parser.error(f'--{option} is for {" and ".join(names)}')
     if (status := own_command(asked, parser, command, patience)) is not None:
         return status
-    command += ['now'] * bool(asked.now)
+    command += ['now'] * bool(asked.now) + ['when-idle'] * bool(asked.when_idle)
     if asked.all:
         return run_all(command, patience)
     if command and command[0] in [name for name, _ in trunks_here()]:
@@ -212,6 +212,8 @@ def main(patience: float = PATIENCE) -> None:
                         'with --from or --to]')
     parser.add_argument('--circuit', metavar='N', type=number(1, 30), help='calls: those of a circuit')
     parser.add_argument('--now', action='store_true', default=None, help='block: calls are cleared')
+    parser.add_argument('--when-idle', action='store_true', default=None, help='reload: circuits in a call wait for '
+                        'its end')
     parser.add_argument('--no-addresses', action='store_true', default=None, help='report: hosts are other words')
     parser.add_argument('--for', metavar='SECONDS', type=number(0, 10**6, float), help='wait: no longer than that')
     when = checked(lambda text: local_second(text, time.time()), 'a time such as 14:03, yesterday or 2026-11-23T07:30')

@@ -18,8 +18,8 @@ class HolderState(NamedTuple):
     (field 22 of /proc/PID/stat); it goes on from its log for the reason `why`, `since` that time of day, and if
     `octets_lost` the one before it may have had some in hand. The line is `open` since `opened`, or has a `fault`.
     `span` is that of a DAHDI card, or 0. `lacking` are circuits without a port. A `trial` is of a version that may go
-    back. `words` are options of each
-    program, and `state` is the file of --state."""
+    back. `words` are options of each program, and `state` is the file of --state. Circuits that `wait` are configured
+    otherwise once their calls have ended."""
 
     interface: int
     version: str
@@ -41,6 +41,7 @@ class HolderState(NamedTuple):
     trunk: str
     words: tuple[str, ...]
     state: str
+    wait: tuple[int, ...] = ()
 
     def spell(self) -> bytes:
         return json.dumps(self._asdict()).encode() + b'\n'
@@ -53,6 +54,7 @@ def state_in(octets: bytes) -> HolderState:
     if plain.get('interface') != INTERFACE:
         return other_interface(plain.get('interface'))
     try:
+        plain = {'wait': [], **plain}       # (an older holder has none)
         its = {name: plain[name] for name in HolderState._fields}
         return HolderState(**{name: tuple(value) if isinstance(value, list) else value for name, value in its.items()})
     except (KeyError, TypeError) as fault:

@@ -179,6 +179,8 @@ def head_of(status: Status) -> list[str]:
     lines += _pair_line(status) + _card_line(status) + _crc4_line(status)
     lines += filter(None, [deaf.words_of_rows(status['circuits']), block_words(status['circuits']),
                            codec_line(status['circuits'])])
+    if waiting := status.get('waiting'):
+        lines.append(f'configured otherwise when their calls end (reload --when-idle): {circuit_words(waiting)}')
     lines += [f'ended: {what}: {why}' for what, why in status['ended'].items() if why is not None]
     if status['stale']:
         lines.append('the counts of packets are not those of now')

@@ -13,7 +13,7 @@ import sys
 import threading
 import tomllib
 from contextlib import closing
-from dataclasses import dataclass
+from dataclasses import dataclass, replace
 from importlib import import_module
 from typing import Any, Callable, Iterable, Mapping, Sequence
 
@@ -21,7 +21,7 @@ from .config_faults import config_words
 from .fault_words import words_of_fault
 from .holder.log import remove
 from .holder.version import NOT_PROVED, Tried, tried_in
-from .lines import IN_CALL, config_text, no_peers, tables_of
+from .lines import IN_CALL, circuit_words, config_text, lines_of, no_peers, tables_of
 from .log_folder import LogFiles, LogPair, LogWriter
 from .memory import in_memory
 from .session import CIRCUITS
@@ -64,16 +64,25 @@ def run(asked: Asked, program: int, words: Sequence[str], config: str, begun: Lo
     return done.returncode, done.stderr.decode(errors='replace').strip(), done.stdout.decode(errors='replace')
 
 
-def check(asked: Asked, program: int, config: str, begun: LogPair | None) -> tuple[frozenset[int], frozenset[int]]:
-    """Has a program check a configuration, and whether it goes on from a log: the circuits that begin as new then, and
-    those that are in a call."""
+@dataclass(frozen=True)
+class Checked:
+    """Circuits: those that begin as new, those that are in a call, and the codec and payload type that each has."""
+
+    new: frozenset[int]
+    calls: frozenset[int]
+    codecs: Mapping[int, tuple[str, int]]
+
+
+def check(asked: Asked, program: int, config: str, begun: LogPair | None) -> Checked:
+    """Has a program check a configuration, and whether it goes on from a log: how the circuits stand then."""
     status, said, listed = run(asked, program, ['check'], config, begun)
     lines = said.splitlines()
     if status:
         raise TrialRefused('; '.join(line for line in lines if not NEW.fullmatch(line)) or f'status {status}')
     rows = [line.split() for line in listed.splitlines()]
-    return (frozenset(int(found[1]) for line in lines if (found := NEW.fullmatch(line))),
-            frozenset(int(row[0]) for row in rows if row[2:] and row[2] in IN_CALL))
+    return Checked(frozenset(int(found[1]) for line in lines if (found := NEW.fullmatch(line))),
+                   frozenset(int(row[0]) for row in rows if row[2:] and row[2] in IN_CALL),
+                   {int(row[0]): (row[-2], int(row[-1])) for row in rows if row[2:]})
 
 
 def version_name(asked: Asked) -> str:
@@ -176,9 +185,13 @@ class ReloadEffects:
         """Whose calls lose their ports."""
         return (self.calls & self.ports) - self.ports_then - self.new
 
+    @property
+    def hurt(self) -> frozenset[int]:
+        return self.ended | self.mute
+
     def is_refused(self, force: bool) -> bool:
         """Whether it ends too many calls."""
-        return len(self.ended | self.mute) > MOST_ENDED and not force
+        return len(self.hurt) > MOST_ENDED and not force
 
 
 def tried(asked: Asked) -> dict[str, Any]:
@@ -194,28 +207,64 @@ def tried(asked: Asked) -> dict[str, Any]:
         cause = config_words(config)
         raise TrialRefused(f'{fault}: {cause}' if cause else str(fault)) from None
     version, log = in_pieces(tables, asked['senders'], name), last_of(asked['log'])
-    new, in_call = check(asked, program, version.config(), log)
-    told = effects(asked, version, new, calls_of(asked, log, in_call)) if asked['before'] else ''
-    return {'tried': version._asdict(), 'told': told}
+    found = check(asked, program, version.config(), log)
+    if not asked['before']:
+        return {'tried': version._asdict(), 'told': ''}
+    before, now = tried_in(asked['before']), running(asked, log)
+    calls = now.calls | found.calls
+    hurt = ReloadEffects(calls, found.new, frozenset(before.ports), frozenset(version.ports)).hurt
+    if wait := {n for n in hurt if asked['when_idle'] or has_codec(before, version, n, now.codecs)}:
+        if version.head != before.head:
+            raise TrialRefused('law and host are of all circuits, and wait for no call')
+        version = version.keeping(before, wait)
+        found = check(asked, program, version.config(), log)
+    runs = is_same_file(asked) and version._replace(wait=before.wait) == before
+    return {'tried': version._asdict(), 'told': effects(asked, version, found.new, calls),
+            'changes': changes(before, version), 'runs': runs}
 
 
-def calls_of(asked: Asked, log: LogPair | None, in_call: frozenset[int]) -> frozenset[int]:
-    """The circuits that are in a call, with the configuration before, by either program. If neither says it, all may
-    be."""
+def running(asked: Asked, log: LogPair | None) -> Checked:
+    """How the circuits stand with the configuration before, by either program. If neither says it, all may be in a
+    call."""
     before = tried_in(asked['before'])
     for program in asked['program'], asked['program_before']:
         try:
-            return check(asked, program, before.config(), log)[1] | in_call
+            return check(asked, program, before.config(), log)
         except (TrialRefused, TrialLater, OSError):
             pass
-    return frozenset(CIRCUITS)
+    return Checked(frozenset(), frozenset(CIRCUITS), {})
+
+
+def has_codec(before: Tried, version: Tried, circuit: int, codecs: Mapping[int, tuple[str, int]]) -> bool:
+    """Whether a circuit has the codec of its new table already, and nothing else of that is new."""
+    if not all(circuit in each.circuits for each in (before, version)):
+        return False
+    old, new = (tomllib.loads(each.head + each.circuits[circuit][1]) for each in (before, version))
+    is_alike = all(old['circuit'][0].get(key) == new['circuit'][0].get(key)
+                   for key in {*old['circuit'][0], *new['circuit'][0]} - {'codec', 'payload'})
+    return is_alike and codecs.get(circuit) == lines_of(new)[circuit].configured
+
+
+def is_same_file(asked: Asked) -> bool:
+    """Whether the program is the file that runs."""
+    now, before = (os.fstat(asked[key]) for key in ('program', 'program_before'))
+    return os.path.samestat(now, before) and (now.st_size, now.st_mtime_ns) == (before.st_size, before.st_mtime_ns)
+
+
+def changes(before: Tried, version: Tried) -> str:
+    """What is new of a version, in words."""
+    others = [n for n in CIRCUITS if before.circuits.get(n) != version.circuits.get(n)]
+    return '; '.join([*[f'program {version.name} in place of {before.name}'] * (version.name != before.name),
+                      *['another law or host'] * (version.head != before.head),
+                      *[f'circuits {circuit_words(others)} are configured otherwise'] * bool(others),
+                      *[f'circuits {circuit_words(version.wait)} are when their calls end'] * bool(version.wait)])
 
 
 def effects(asked: Asked, version: Tried, new: frozenset[int], calls: frozenset[int]) -> str:
     """What a reload does to calls, in words. TrialRefused if that is too much."""
     found = ReloadEffects(calls, new, frozenset(tried_in(asked['before']).ports), frozenset(version.ports))
     if found.is_refused(asked['force']):
-        raise TrialRefused(f'it would end {calls_in(found.ended | found.mute)}; reload force does')
+        raise TrialRefused(f'it would end {calls_in(found.hurt)}: reload --when-idle waits for them, reload force does')
     return '; '.join([*[f'it ends {calls_in(found.ended)}'] * bool(found.ended),
                       *[f'it takes the ports of {calls_in(found.mute)}'] * bool(found.mute)])
 

@@ -55,7 +55,7 @@ class PlainTrunk(WatchedTrunk):
     async def ends(self) -> str:
         return ''
 
-    async def reload(self, force: bool) -> str:
+    async def reload(self, *how: str) -> str:
         return ''
 
     async def role(self, word: str) -> str:

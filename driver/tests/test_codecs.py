@@ -9,6 +9,7 @@ from typing import Any, cast
 from unittest import mock
 
 from . import support
+from .limits import LONG
 from .test_trunk import aligned, call
 from .world import World, config_of
 from e1gw.lines import IN_CALL, Line, Role, State
@@ -30,7 +31,7 @@ class CodecsOverTests(unittest.TestCase):
         """In a call nothing has to be known of it."""
         lines = {n: Line(n, state=state, seizures=n) for n, state in ((1, State.IDLE), (2, State.ANSWERED))}
         noted = mock.Mock()
-        watch = CodecWatch(cast(Any, SimpleNamespace(lines=lines)), cast(Any, None), lambda: (), noted)
+        watch = CodecWatch(cast(Any, SimpleNamespace(lines=lines)), cast(Any, None), lambda n: False, noted)
         for n in lines:
             watch.was_given(n)
         self.assertEqual((watch.given, noted.call_count), ({1: 1}, 1))
@@ -64,3 +65,30 @@ class CodecOfACallTests(unittest.TestCase):
         self.assertEqual(world.ask('clear 2'), 'clear 2: done')
         world.until(lambda: codecs() == ['pcma'] * 2)
         support.until(lambda: '(*)' not in world.ask('status'))
+
+
+class IdleReloadTests(unittest.TestCase):
+    def test_one_trunk(self) -> None:
+        """Another codec for all circuits: one in a call has it once that has ended, also if the watcher dies meanwhile,
+        and no call ends."""
+        world = World(config_of(range(1, 3)), within={'holder.starting.RELOADED': LONG})
+        self.addCleanup(world.__exit__)
+
+        def rows() -> list[tuple[str, str]]:
+            return [(row['state'], row['codec']) for row in world.told()['circuits'][:2]]
+        aligned(world)
+        call(world, 1)
+        text = support.text_of(world.config)
+        world.configure(text.replace('"pcma"', '"g726-32"').replace('payload = 8', 'payload = 96'))
+        self.assertEqual(world.ask('reload when-idle'), 'reload: circuits 2 are configured otherwise; circuits 1 are '
+                         'when their calls end\nreload: done')
+        world.connected()
+        world.until(lambda: rows() == [('answered', 'pcma'), ('idle', 'g726-32')])
+        self.assertEqual(world.told()['waiting'], [1])
+        self.assertIn('\nconfigured otherwise when their calls end (reload --when-idle): 1\n', world.ask('status'))
+        os.kill(world.watcher(), signal.SIGKILL)
+        world.connected()
+        self.assertEqual(world.ask('clear 1'), 'clear 1: done')
+        world.until(lambda: not world.told()['waiting'] and rows() == [('idle', 'g726-32')] * 2)
+        self.assertEqual(world.ask('reload').splitlines()[-2:], [
+            'reload: nothing to do: this program and this configuration run', 'reload: done'])

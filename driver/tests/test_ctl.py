@@ -104,7 +104,8 @@ class CtlAnswerCase(support.FolderCase):
         trunk = StandInTrunk(self.path(f'run/{name}/control'), {
             'seize 1': 'seize 1: done\n\n', 'seize 2': 'seize 2: not idle\n\n', 'status': f'trunk {name}\nrows\n\n',
             'status 40': 'status 40: circuits are 1 to 30\n\n', 'status x': 'x: help\n\n',
-            'reload': 'a\nreload: done\n\n', 'reload force': 'reload: d', 'unblock 3': 'unblock 3: done\n\n',
+            'reload': 'a\nreload: done\n\n', 'reload force': 'reload: d', 'reload when-idle': 'reload: done\n\n',
+            'unblock 3': 'unblock 3: done\n\n',
             'events': 'events: done\n\n{"event": 1}\n{"event": 2}\n'})
         self.addCleanup(trunk.listener.close)
         return trunk
@@ -126,7 +127,8 @@ class CtlAnswerTests(CtlAnswerCase):
                 ('seize 1', 0, ['seize 1: done']), ('seize 2', 1, ['seize 2: not idle']),
                 ('seize 1-2', 1, ['seize 1: done', 'seize 2: not idle']), ('status', 0, ['trunk west', 'rows']),
                 ('status 40', 1, ['status 40: circuits are 1 to 30']), ('status x', 1, ['x: help']),
-                ('reload', 0, ['a', 'reload: done']), ('reload force', 1, ['reload: d']),
+                ('reload', 0, ['a', 'reload: done']), ('reload --when-idle', 0, ['reload: done']),
+                ('reload force', 1, ['reload: d']),
                 ('events', 0, ['{"event": 1}', '{"event": 2}']), ('unblock 3', 0, ['unblock 3: done'])):
             with self.subTest(words):
                 self.assertEqual(self.ctl('west', *words.split()), (status, told, ''))

@@ -8,7 +8,7 @@ from types import SimpleNamespace
 from . import support
 from e1gw.holder.decisions import (DEATHS, FIRST_PAUSE, MOST_DEATHS, MOST_PAUSE, TRIED, WITHIN, Deaths)
 from e1gw.trial import MOST_ENDED, ReloadEffects
-from e1gw.watcher.decisions import QUIET, Flow, FlowChange, who_goes
+from e1gw.watcher.decisions import QUIET, REFUSED, RELOADED, Flow, FlowChange, IdleReloads, who_goes
 
 
 class DecisionTests(unittest.TestCase):
@@ -41,6 +41,16 @@ class DecisionTests(unittest.TestCase):
                 self.assertEqual(n in effects.mute, n in calls and n not in new and n in ports and n not in then)
             many = len(effects.ended) + len(effects.mute) > MOST_ENDED
             self.assertEqual((effects.is_refused(False), effects.is_refused(True)), (many, False))
+
+    def test_reloads_of_what_waits(self) -> None:
+        """Once a call has ended, one at a time; later if it was refused."""
+        fresh = IdleReloads()
+        for states, is_due in ('', False), ('answered seized', False), ('answered idle', True):
+            self.assertEqual(fresh.is_due(0.0, states.split()), is_due)
+        self.assertFalse(fresh.asked().is_due(1e9, ['idle']))
+        for is_done, seconds in ((True, RELOADED), (False, REFUSED)):
+            after = fresh.asked().answered(10.0, is_done)
+            self.assertEqual([after.is_due(10.0 + each, ['idle']) for each in (seconds - 0.1, seconds)], [False, True])
 
     def test_a_stall(self) -> None:
         """It is found after a second, once; what nobody reports is not missed; octets end it."""

@@ -246,15 +246,15 @@ class HolderAskedTests(HolderCase):
         """It is done, or refused; then the trunk goes on as it was. systemd is told its end."""
         self.begins()
         text = support.text_of(self.config)
-        self.assertEqual(self.asks('reload'), 'reload: done')
-        self.goes_on_all()
+        self.assertEqual(self.asks('reload'), 'reload: nothing to do: this program and this configuration run\n'
+                         'reload: done')
         self.write('trunk.toml', f'x = 1\n{text}')
         self.assertRegex(self.asks('reload'), 'reload: refused: the trunk goes on as it was: .*: x is not a key here')
         os.unlink(self.config)
         self.assertRegex(self.asks('reload'), 'reload: refused: .*No such file')
         others = text.replace('"incoming"', '"x"').replace('"outgoing"', '"incoming"').replace('"x"', '"outgoing"')
         self.write('trunk.toml', others)
-        self.assertRegex(self.asks('reload'), 'reload: refused: .*it would end 30 calls .*; reload force does')
+        self.assertRegex(self.asks('reload'), 'reload: refused: .*it would end 30 calls .*, reload force does')
         self.write('trunk.toml', text)
         os.kill(self.keeper.pid, signal.SIGHUP)
         self.goes_on_all()
@@ -262,7 +262,7 @@ class HolderAskedTests(HolderCase):
         self.assertEqual(told, ['READY=1', *['RELOADING=1', 'READY=1'] * 5])
         self.as_uncut()
         self.write('trunk.toml', others)
-        self.assertEqual(self.asks('reload force'), 'reload: done')
+        self.assertEqual(self.asks('reload force'), 'reload: circuits 1-30 are configured otherwise\nreload: done')
         self.awaits('reload: it ends 30 calls')
         self.keeper.terminate()
         self.keeper.wait(SECONDS)
@@ -295,7 +295,7 @@ class HolderAskedTests(HolderCase):
         """The one before comes back, also behind the next death and another reload."""
         self.begins()
         for _ in range(2):
-            self.assertEqual(self.asks('reload'), 'reload: done')
+            self.assertEqual(self.asks('reload force'), 'reload: done')
             self.goes_on_all()
             self.dies()
             os.kill(self.program, signal.SIGKILL)
@@ -363,7 +363,7 @@ class NoLineTests(HolderCase):
         self.starts_holder()
         self.awaits('the trunk cannot be opened')
         for _ in range(2):
-            self.assertEqual(self.asks('reload'), 'reload: done')
+            self.assertEqual(self.asks('reload force'), 'reload: done')
             self.assertFalse(self.state().trial)
         told = [each for each in self.manager.told() if each in ('READY=1', 'RELOADING=1')]
         self.assertEqual(told[-4:], ['RELOADING=1', 'READY=1'] * 2)

@@ -4,6 +4,7 @@ from __future__ import annotations
 import os
 import shutil
 import socket
+import tomllib
 from typing import Any, Mapping
 from unittest import mock
 
@@ -27,7 +28,7 @@ class TrialTests(support.FolderCase):
 
     def asked(self, **more: Any) -> dict[str, Any]:
         return {'what': 'try', 'program': self.file, 'config': self.config, 'senders': 'host', 'wait': 200,
-                'force': False, 'log': self.path('log'), 'before': None, 'program_before': -1,
+                'force': False, 'when_idle': False, 'log': self.path('log'), 'before': None, 'program_before': -1,
                 'seconds': support.SECONDS, **more}
 
     def answer(self, **more: Any) -> Mapping[str, Any]:
@@ -112,8 +113,42 @@ class TrialTests(support.FolderCase):
                 ((1, 2, 3, 4), (1, 2, 3), False, 'it ends 3 calls')):
             self.assertRegex(trial.effects(self.asked(before=before, force=force), version, frozenset(new),
                                            frozenset(calls)), f'^{words}')
-        with self.assertRaisesRegex(trial.TrialRefused, 'it would end 4 calls .*; reload force does'):
+        with self.assertRaisesRegex(trial.TrialRefused, 'it would end 4 calls .*: reload --when-idle waits'):
             trial.effects(self.asked(before=before), version, frozenset((1, 2)), frozenset((1, 2, 3, 4)))
+
+    def test_what_waits(self) -> None:
+        """Circuits in a call keep their table until its end if that is asked, and if they have its codec already; law
+        and host wait for nothing. If neither program nor configuration is new, nothing follows."""
+        def text(*codecs: str, host: str = '127.0.0.1', prefill: int = 0) -> str:
+            tables = {n: {'codec': codec, 'payload': 96 if codec != 'pcma' else 8} for n, codec in enumerate(codecs, 1)}
+            return f'host = "{host}"\n' + config_text({**tables, 3: {**tables[3], 'prefill': prefill}})
+        before = trial.in_pieces(tomllib.loads(text('pcma', 'pcma', 'pcma')), 'host', '')
+
+        def check(_: object, __: object, config: str, log: object) -> trial.Checked:
+            its = {table['number']: table for table in tomllib.loads(config)['circuit']}
+            was = {n: tomllib.loads(circuit[1])['circuit'][0] for n, circuit in before.circuits.items()}
+            return trial.Checked(frozenset(n for n in its if its[n] != was[n]), frozenset((1, 2)),
+                                 {1: ('g726-32', 96), 2: ('pcma', 8), 3: ('pcma', 8)} if log is None else {})
+        self.enterContext(mock.patch.multiple(trial, check=check, version_name=lambda _: ''))
+
+        def found(config: str, **more: Any) -> tuple[list[int], str, str, bool]:
+            path = self.write('new.toml', config)
+            asked = self.asked(**{'config': path, 'before': vars(before), 'program_before': self.file} | more)
+            its = trial.tried(asked)
+            self.assertEqual([n for n in before.circuits if its['tried']['circuits'][n] == before.circuits[n]],
+                             [*its['tried']['wait']] or ([1, 2, 3] if its['runs'] else []))
+            return [*its['tried']['wait']], its['told'], its['changes'], its['runs']
+        coded, waits = text('g726-32', 'g726-32', 'pcma', prefill=160), 'circuits 1-2 are when their calls end'
+        self.assertEqual(found(coded), ([1], 'it ends 1 calls (circuits 2)', 'circuits 2-3 are configured otherwise; '
+                                        'circuits 1 are when their calls end', False))
+        self.assertEqual(found(coded, when_idle=True), (
+            [1, 2], '', f'circuits 3 are configured otherwise; {waits}', False))
+        with self.assertRaisesRegex(trial.TrialRefused, 'wait for no call'):
+            found(text('g726-32', 'pcma', 'pcma', host='127.0.0.2'), when_idle=True)
+        self.assertEqual(found(text('pcma', 'pcma', 'pcma')), ([], '', '', True))
+        with open(support.program(), 'rb') as other, open(self.config, 'rb') as another:
+            self.assertTrue(trial.is_same_file(self.asked(program_before=other.fileno())))
+            self.assertFalse(trial.is_same_file(self.asked(program_before=another.fileno())))
 
     def test_what_can_begin(self) -> None:
         self.assertEqual(self.answer(what='begin'), {})

@@ -143,7 +143,7 @@ class WatcherShowsTests(WatcherCase):
             with urllib.request.urlopen(f'http://127.0.0.1:{port}/{path}', timeout=SECONDS) as page:
                 self.assertIn(words, page.read().decode())
         self.assertEqual(self.ask('role'), 'role: there is no other machine (--feed, --fed-from)')
-        self.assertEqual(self.ask('reload'), 'reload: done')
+        self.assertEqual(self.ask('reload force'), 'reload: done')
         self.goes_on()
         self.write('trunk.toml', 'x = 1\n')
         self.assertRegex(self.ask('reload'), '^reload: refused: the trunk goes on as it was: ')
@@ -245,8 +245,8 @@ class WatcherUnheardTests(WatcherCase):
         """Of the program, a reload and another holder in place of this one."""
         for number in (signal.SIGKILL, signal.SIGTERM) * 5:
             self.dies(number)
-        for word in 'reload', 'replace':
-            self.assertEqual(self.asks(word), f'{word}: done')
+        for words in 'reload force', 'replace':
+            self.assertEqual(self.asks(words), f'{words.split()[0]}: done')
             self.goes_on_all()
         self.as_uncut()
 

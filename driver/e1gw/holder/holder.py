@@ -197,7 +197,7 @@ class Holder:
         """Somebody asks for something at the socket."""
         now = time.monotonic()
         match request.text:
-            case 'reload' | 'reload force':
+            case 'reload' | 'reload force' | 'reload when-idle':
                 self.reloads.begin(request)
             case 'replace':
                 self.reloads.replace(request)
@@ -262,7 +262,7 @@ class Holder:
             bool(self.lost), bool(line.files), line.since, line.fault, line.card.span if line.card else 0,
             (*sorted(self.sockets.lacking),), its.name if its else '', its.senders if its else '',
             self.versions.before is not None, ACTIVE if self.is_active else STANDBY, self.options.line.trunk,
-            self.options.words, self.options.state)
+            self.options.words, self.options.state, its.wait if its else ())
         try:
             put_file(f'{self.folder}/holder', state.spell(), 0o640)
         except OSError as fault:

@@ -20,6 +20,7 @@ if TYPE_CHECKING:
     from .holder import Holder
 
 AGAIN = 0.5                 # seconds before a first version is tried again
+NOTHING = 'nothing to do: this program and this configuration run'
 
 
 class Reloads:
@@ -69,6 +70,7 @@ class Reloads:
         self._program = program = os.open(options.program, os.O_RDONLY | os.O_CLOEXEC)
         asked = {'what': 'try', 'program': program, 'config': options.config, 'senders': options.senders,
                  'wait': options.wait, 'log': self._log(), 'force': request.text.endswith(' force'),
+                 'when_idle': request.text.endswith(' when-idle'),
                  'before': before.its._asdict() if before else None, 'program_before': before.program if before else -1}
         try:
             self._job = Job(asked, [program, before.program] if before else [program])
@@ -90,12 +92,25 @@ class Reloads:
         if request.word == 'replace':
             return self._become(request, found)
         if 'tried' in found:
-            version = version_of(self._program, tried_in(found['tried']))
+            version, request.told = version_of(self._program, tried_in(found['tried'])), found.get('changes', '')
+            if found.get('runs') and request.has_client and not request.text.endswith(' force'):
+                return self._go_on(request, version)
             return self._follow(request, version, found.get('told', ''), now)
         os.close(self._program)
         if request.word == 'begin':
             return self._has_no_version(found)
         self._refuse(request, str(found.get('refused') or found.get('later')))
+
+    def _go_on(self, request: HolderRequest, version: Version) -> None:
+        """The program of now goes on: nothing is new of this version but what waits."""
+        holder = self._holder
+        holder.versions.differs_little(version)
+        put_version(holder, version)
+        holder.keep()
+        holder.tell()
+        holder.store.say('READY=1')
+        request.told = request.told or NOTHING
+        request.done()
 
     def _follow(self, request: HolderRequest, version: Version, told: str, now: float) -> None:
         """A program of this version follows."""
@@ -104,6 +119,8 @@ class Reloads:
             say(Severity.WARNING, f'reload: {told}')
         if not version.its.is_proved:
             say(Severity.WARNING, f'e1gw {version.its.name}: it is for trials, and takes more of a processor')
+        if request.told:
+            say(Severity.NOTICE, f'reload: {request.told}')
         holder.versions.follows(version)
         if holder.program and holder.is_active:
             holder.requests.append(request)

@@ -15,8 +15,12 @@ class HolderRequest:
     """One that was made, which is answered once."""
 
     def __init__(self, line: socket.socket | None, text: str) -> None:
-        self.text, self._line = text, line
+        self.text, self._line, self.told = text, line, ''
         self.word = text.partition(' ')[0]
+
+    @property
+    def has_client(self) -> bool:
+        return self._line is not None
 
     @classmethod
     def of(cls, file: int, text: str) -> HolderRequest:
@@ -24,7 +28,8 @@ class HolderRequest:
         return cls(socket.socket(fileno=file), text)
 
     def done(self) -> None:
-        self.answer(f'{self.word}: done')
+        """It was done; with what was `told` of it in a line before."""
+        self.answer(f'{self.word}: {self.told}\n' * bool(self.told) + f'{self.word}: done')
 
     def refused(self, why: str) -> None:
         self.answer(f'{self.word}: refused: {" ".join(why.splitlines())}')

@@ -6,11 +6,13 @@ import json
 import os
 from functools import cached_property
 from math import inf
-from typing import Any, Collection, Mapping, NamedTuple
+from typing import Any, Collection, Mapping, NamedTuple, TypeVar
 
 from ..memory import in_memory
 from .decisions import Trial
 from .sockets import Address
+
+T = TypeVar('T')
 
 
 NOT_PROVED = 'not proved'   # at the end of the version of a program that was built without proof
@@ -18,13 +20,15 @@ NOT_PROVED = 'not proved'   # at the end of the version of a program that was bu
 
 class Tried(NamedTuple):
     """What a trial has found. The text of a configuration is in pieces, in which names are addresses: what is before
-    the circuits, and each circuit with its ports and without; `ports` has those that are to be bound."""
+    the circuits, and each circuit with its ports and without; `ports` has those that are to be bound. Circuits that
+    `wait` are in a call, and have their table of before until it ends."""
 
     head: str
     circuits: Mapping[int, tuple[str, str]]
     ports: Mapping[int, Address]
     senders: str
     name: str                   # what the program says as its version
+    wait: tuple[int, ...] = ()
 
     @property
     def is_proved(self) -> bool:
@@ -34,6 +38,13 @@ class Tried(NamedTuple):
         """The text of the configuration, in which these circuits have no ports."""
         return self.head + ''.join(without if n in lacking else its for n, (its, without) in self.circuits.items())
 
+    def keeping(self, before: Tried, circuits: Collection[int]) -> Tried:
+        """The same, but that these circuits wait."""
+        def joined(new: Mapping[int, T], old: Mapping[int, T]) -> dict[int, T]:
+            return {n: its for n in sorted({*new, *old}) if (its := (old if n in circuits else new).get(n))}
+        return self._replace(circuits=joined(self.circuits, before.circuits), ports=joined(self.ports, before.ports),
+                       wait=tuple(sorted(circuits)))
+
     def text(self) -> str:
         return json.dumps(self._asdict())
 
@@ -41,7 +52,8 @@ class Tried(NamedTuple):
 def tried_in(plain: Mapping[str, Any]) -> Tried:
     """What JSON has of it. KeyError, TypeError, ValueError if it is another thing."""
     return Tried(plain['head'], {int(n): (its, without) for n, (its, without) in plain['circuits'].items()},
-                 {int(n): (host, port) for n, (host, port) in plain['ports'].items()}, plain['senders'], plain['name'])
+                 {int(n): (host, port) for n, (host, port) in plain['ports'].items()}, plain['senders'], plain['name'],
+                 (*plain.get('wait', ()),))      # (a holder before this one has none)
 
 
 class Version:
@@ -76,6 +88,12 @@ class Versions:
             self.before.close()
         self.before, self.now = self.now, version
         self.trial = Trial() if self.before else None
+
+    def differs_little(self, version: Version) -> None:
+        """The version of now is this one, which differs by what waits alone."""
+        if self.now:
+            self.now.close()
+        self.now = version
 
     def stays(self) -> None:
         """The version of now has come to stay."""

@@ -124,9 +124,9 @@ class BlockWatch:
         self.kept, self._state, self._give, self._tell = kept, lines, give, tell
         self._busy, self._blocks = Counter[int](), Tasks()
 
-    def busy(self) -> Container[int]:
-        """The circuits to which a command is under way."""
-        return +self._busy
+    def is_busy(self, circuit: int) -> bool:
+        """Whether a command is under way to a circuit."""
+        return self._busy[circuit] > 0
 
     @contextmanager
     def under_way(self, circuit: int) -> Iterator[None]:

@@ -5,7 +5,7 @@ What is done follows from how the lines stand, and of a circuit to which one was
 had been seized then. That is noted: the next watcher, and the next program, go on from it."""
 from __future__ import annotations
 
-from typing import Any, Callable, Container, Coroutine, Iterable, Mapping
+from typing import Any, Callable, Coroutine, Iterable, Mapping
 
 from ..lines import IN_CALL, Line
 from ..reports import TrunkState
@@ -19,13 +19,13 @@ def codecs_over(lines: Iterable[Line], given: Mapping[int, int]) -> list[int]:
 
 
 class CodecWatch:
-    """Sees to these. `give` gives a circuit a codec and a payload type; to a `busy` one a command is under way. `note`
-    has `given` noted for the next watcher."""
+    """Sees to these. `give` gives a circuit a codec and a payload type, unless it is busy. `note` has `given` noted for
+    the next watcher."""
 
     def __init__(self, state: TrunkState, give: Callable[[int, str, int], Coroutine[Any, Any, str]],
-                 busy: Callable[[], Container[int]], note: Callable[[], None]) -> None:
+                 is_busy: Callable[[int], bool], note: Callable[[], None]) -> None:
         self.given = dict[int, int]()           # (see there)
-        self._state, self._give, self._busy, self._note, self._tasks = state, give, busy, note, Tasks()
+        self._state, self._give, self._is_busy, self._note, self._tasks = state, give, is_busy, note, Tasks()
 
     def was_given(self, circuit: int) -> None:
         """A command has given one to this circuit."""
@@ -37,7 +37,6 @@ class CodecWatch:
     def look(self) -> None:
         """To be called at each change and now and then."""
         if self._state.live:
-            busy = self._busy()
             for n in codecs_over(self._state.lines.values(), self.given):
-                if n not in busy:
+                if not self._is_busy(n):
                     self._tasks.begin(self._give(n, *self._state.lines[n].configured))

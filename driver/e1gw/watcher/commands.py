@@ -15,7 +15,7 @@ A line is answered by one or more lines and an empty one:
   promote, demote            this machine is to carry it, or the other one
   move                       the other one is to: the feed says so at its end
   reload                     takes the program and the configuration of now; `reload force` also if that ends
-                             more than three calls
+                             more than three calls; with `reload when-idle` circuits in a call wait for its end
   quit                       ends the trunk
   help                       these lines
 """
@@ -134,8 +134,8 @@ class CommandServer:
                 return answer
             case ['help']:
                 return (__doc__ or '').partition('\n\n')[2].rstrip('\n')
-            case ['reload'] | ['reload', 'force']:
-                return await self._trunk.trunk.reload(words[1:] == ['force'])
+            case ['reload'] | ['reload', 'force' | 'when-idle']:
+                return await self._trunk.trunk.reload(*words[1:])
             case ['role' | 'promote' | 'demote' | 'move' as word]:
                 return await self._trunk.trunk.role(word)
             case ['block', _] | ['block', _, 'now'] | ['unblock', _]:

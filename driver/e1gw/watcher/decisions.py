@@ -3,9 +3,13 @@ from __future__ import annotations
 
 from dataclasses import dataclass, replace
 from enum import Enum
+from math import inf
 from typing import Iterable, Protocol, TypeVar
 
+from ..lines import IN_CALL
+
 QUIET = 1.0                             # seconds after which octets of the trunk are missed
+RELOADED, REFUSED = 2.0, 60.0           # seconds between two reloads of what waits, and behind one that was refused
 
 
 # ---- octets that do not come ----
@@ -31,6 +35,25 @@ class Flow:
         if is_watched and self.stood is None and now - self.moved >= QUIET:
             return replace(self, stood=self.moved, stalls=self.stalls + 1), FlowChange.STALLED
         return self, None
+
+
+# ---- circuits that are configured otherwise when their calls end ----
+
+@dataclass(frozen=True)
+class IdleReloads:
+    """When the holder may be asked to reload what waits: one at a time, and later if one was refused."""
+
+    due: float = 0.0
+
+    def is_due(self, now: float, waiting: Iterable[str]) -> bool:
+        """Whether it is to be asked, where the circuits that wait are in these states."""
+        return now >= self.due and any(state not in IN_CALL for state in waiting)
+
+    def asked(self) -> IdleReloads:
+        return IdleReloads(inf)
+
+    def answered(self, now: float, is_done: bool) -> IdleReloads:
+        return IdleReloads(now + (RELOADED if is_done else REFUSED))
 
 
 # ---- clients of the control socket ----

@@ -15,7 +15,7 @@ async def heard(path: str, words: str, seconds: float) -> str:
         reader, writer = await asyncio.open_unix_connection(path)
         try:
             writer.write(f'{words}\n'.encode())
-            return (await reader.readline()).decode(errors='replace').strip()
+            return (await reader.read()).decode(errors='replace').strip()
         finally:
             writer.close()
 

@@ -227,7 +227,7 @@ class HeldTrunk(WatchedTrunk):
     def facts(self) -> dict[str, Any]:
         state, line = self.state, self._line
         return {'since': state.opened, 'fault': fault_of(state), 'version': state.program_version,
-                'senders': state.senders, 'log_losses': self._log_losses,
+                'senders': state.senders, 'log_losses': self._log_losses, 'waiting': state.wait,
                 'pair': self.pair.facts() if self.pair else {}, 'session': self._reader.why(),
                 'carried': {'transport': {'trunk': state.trunk, **line.status(), **self._card.status()},
                             'crc4': line.crc4 and line.crc4.status()}}
@@ -266,8 +266,8 @@ class HeldTrunk(WatchedTrunk):
     async def ends(self) -> str:
         return await asked(self._places.hold, 'quit')
 
-    async def reload(self, force: bool) -> str:
-        return await asked(self._places.hold, 'reload force' if force else 'reload')
+    async def reload(self, *how: str) -> str:
+        return await asked(self._places.hold, ' '.join(['reload', *how]))
 
     async def role(self, word: str) -> str:
         return await self.pair.asked(word) if self.pair else f'{word}: there is no other machine (--feed, --fed-from)'

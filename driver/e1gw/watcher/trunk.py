@@ -91,7 +91,7 @@ class WatchedTrunk(ABC):
         """The end is asked for."""
 
     @abstractmethod
-    async def reload(self, force: bool) -> str:
+    async def reload(self, *how: str) -> str:
         """The program and the configuration of now are to follow."""
 
     @abstractmethod

@@ -30,6 +30,7 @@ from .connection import NoAnswer, ProgramConnection
 from .blocks import BlockWatch
 from .codecs import CodecWatch
 from .events import EventFile, json_line, tell_journal
+from .idle_reloads import IdleReloadWatch
 from .journal import NOTICE
 from .page import PageNotes
 from .pages import TrunkPages, WebServer
@@ -93,7 +94,9 @@ class TrunkWatch:
                                 PageNotes(self._events.last, self._ended_calls, wants.kept))
         self._server = CommandServer(self)
         self.blocks = BlockWatch(trunk.blocks(), self._lines, self.give, self.tell)
-        self.codecs = CodecWatch(self._lines, self.give_codec, self.blocks.busy, lambda: self.status.changed())
+        self._reloads = IdleReloadWatch(trunk, self._lines)
+        self.codecs = CodecWatch(self._lines, self.give_codec, lambda n: self.blocks.is_busy(n)
+                                 or n in self._reloads.waiting(), lambda: self.status.changed())
         self.status.is_followed = lambda: bool(self._server.followers() or self.blocks.kept.now.left())
         self.status.waiting = lambda: [*islice(self._calls.waiting, NOTED)] if self._calls else []
         self.disconnects = DisconnectWatch(on_loss_of(wants.on_loss), self.clear_all)
@@ -251,6 +254,7 @@ class TrunkWatch:
             'session_path': wants.session and os.path.abspath(wants.session),
             'stale': self.counts.stale(), 'ended': self.ended | {'session': facts['session']},
             'renewed': self._resyncs, 'alarms': self._events.alarms(), 'http': wants.http,
+            'waiting': self._reloads.waiting(),
             'commands': [{'command': name, 'answer': answer, 'count': n}
                          for (name, answer), n in sorted(self._done.items())]}
         status['clock'] = self.trunk.flow() | status['clock']
@@ -310,6 +314,7 @@ class TrunkWatch:
         self.disconnects.look(now)
         self.blocks.look()
         self.codecs.look()
+        self._reloads.look(now)
         self._outages.look(now, self.status.outage())
 
     def goes_on(self) -> None:
