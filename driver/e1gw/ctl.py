@@ -13,6 +13,8 @@ and --to, by the file of --json. report FILE writes a tar with version, status, 
 commands are read from standard input, a line each. --all gives the command to each trunk of this machine. Without any
 word there is a line for each trunk of this machine.
 
+codec N CODEC TYPE save also writes it into the configuration, and reloads that.
+
 A time is 14:03, yesterday, 'yesterday 14:03' or 2026-11-23T07:30, in local time; calls are listed in local time, too.
 
 Statuses: 0 all was done; 1 a trunk refused something, or does not answer; 2 the command line, or nobody listens at
@@ -29,8 +31,9 @@ import time
 from pathlib import Path
 from typing import BinaryIO
 
-from .ctl_all import PATIENCE, SOCKETS, answer_to, connected, overview, trunks_here
+from .ctl_all import PATIENCE, SOCKETS, answer_to, connected, overview, status_of, trunks_here
 from .ctl_calls import OutageForm, Wanted, calls_listed, outages_listed
+from .ctl_codec import save_codecs
 from .ctl_wait import STATES, AwaitedState, wait
 from .faults import Parser, checked, number, words_of_fault
 from .session import CIRCUITS, circuit_of
@@ -124,6 +127,19 @@ def run_all(words: list[str], patience: float) -> int:
     return status
 
 
+def codec_saved(path: str, numbers: str, codec: str, kind: str, patience: float) -> int:
+    """Gives circuits a codec, also in the configuration; returns the status."""
+    if status := run(path, ['codec', numbers, codec, kind], patience):
+        return status
+    file = status_of(path, patience)['config_file']
+    try:
+        save_codecs(file, [int(each) for each in circuits_of(numbers)], codec, int(kind))
+    except ValueError as fault:
+        print(f'{file}: {fault}', flush=True)
+        return 1
+    return run(path, ['reload'], patience)
+
+
 def move(name: str, node: str) -> int:
     """Has Pacemaker move a trunk, whose resource has its name, to another node; returns the status."""
     steps = ['--move', '--promoted', '--node', node], ['--wait'], ['--clear']
@@ -146,6 +162,8 @@ def own_command(asked: argparse.Namespace, parser: argparse.ArgumentParser, comm
             if 0 in circuits or state not in STATES:
                 parser.error(f'wait: wants circuits, 1 to 30, and a state: {", ".join(STATES)}')
             return wait(trunks, AwaitedState(circuits, state), getattr(asked, 'for'), patience)
+        case ['codec', numbers, codec, kind, 'save'] if not asked.all:
+            return codec_saved(path_of(asked.path), numbers, codec, kind, patience)
         case ['why', *its]:
             if len(its) != 1 or not circuit_of(its[0]):
                 parser.error('why: wants a circuit, 1 to 30')
@@ -199,6 +217,8 @@ def next_words(parsed_args: argparse.Namespace, **_: object) -> list[str]:
             return circuits
         case ['wait', _]:
             return STATES
+        case ['codec', _, _, _]:
+            return ['save']
         case ['codec', _]:
             return ['pcma', 'pcmu', 'g726-16', 'g726-24', 'g726-32', 'g726-40']
     return []

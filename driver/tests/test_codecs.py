@@ -3,6 +3,8 @@ from __future__ import annotations
 
 import os
 import signal
+import subprocess
+import sys
 import unittest
 from types import SimpleNamespace
 from typing import Any, cast
@@ -12,6 +14,7 @@ from . import support
 from .limits import LONG
 from .test_trunk import aligned, call
 from .world import World, config_of
+from e1gw.ctl_codec import save_codecs, with_codec
 from e1gw.lines import IN_CALL, Line, Role, State
 from e1gw.watcher.codecs import CodecWatch, codecs_over
 
@@ -67,6 +70,41 @@ class CodecOfACallTests(unittest.TestCase):
         support.until(lambda: '(*)' not in world.ask('status'))
 
 
+ONE = """# west
+law = "A"
+[[circuit]]
+number = 11
+prefill = 160
+[[circuit]]     # the first
+number = 1      # here
+codec = "pcma"  # for the PBX
+payload = 8
+"""
+
+
+class SavedCodecTests(support.FolderCase):
+    def test_text(self) -> None:
+        """Of one circuit, with or without keys of its own; all else stays as it is written."""
+        self.assertEqual(with_codec(ONE, 1, 'g726-32', 96), ONE.replace('"pcma"', '"g726-32"').replace('= 8', '= 96'))
+        self.assertEqual(with_codec(ONE, 11, 'g726-16', 97), ONE.replace(
+            'number = 11\n', 'number = 11\npayload = 97\ncodec = "g726-16"\n'))
+        for text in ONE.replace('number = 1 ', 'number = 0x1 '), 'law = "A"\n', ONE.replace('codec =', '"codec" ='):
+            with self.assertRaises(ValueError):
+                with_codec(text, 1, 'g726-32', 96)
+
+    def test_file(self) -> None:
+        """Its mode stays, and one that cannot be edited is as it was."""
+        path = self.write('west.toml', ONE)
+        os.chmod(path, 0o640)
+        with self.assertRaises(ValueError):
+            save_codecs(path, [1, 2], 'g726-32', 96)
+        self.assertEqual(support.text_of(path), ONE)
+        for codec, payload in ('g726-32', 96), ('pcma', 8):
+            save_codecs(path, [11, 1], codec, payload)
+        self.assertEqual((support.text_of(path), os.stat(path).st_mode & 0o777), (ONE.replace(
+            'number = 11\n', 'number = 11\npayload = 8\ncodec = "pcma"\n'), 0o640))
+
+
 class IdleReloadTests(unittest.TestCase):
     def test_one_trunk(self) -> None:
         """Another codec for all circuits: one in a call has it once that has ended, also if the watcher dies meanwhile,
@@ -84,7 +122,7 @@ class IdleReloadTests(unittest.TestCase):
                          'when their calls end\nreload: done')
         world.connected()
         world.until(lambda: rows() == [('answered', 'pcma'), ('idle', 'g726-32')])
-        self.assertEqual(world.told()['waiting'], [1])
+        support.until(lambda: bool(world.known()['waiting'] == [1]))
         self.assertIn('\nconfigured otherwise when their calls end (reload --when-idle): 1\n', world.ask('status'))
         os.kill(world.watcher(), signal.SIGKILL)
         world.connected()
@@ -92,3 +130,19 @@ class IdleReloadTests(unittest.TestCase):
         world.until(lambda: not world.told()['waiting'] and rows() == [('idle', 'g726-32')] * 2)
         self.assertEqual(world.ask('reload').splitlines()[-2:], [
             'reload: nothing to do: this program and this configuration run', 'reload: done'])
+
+    def test_a_codec_that_is_saved(self) -> None:
+        """In a call, which goes on: the file has it, and so has the circuit behind that call."""
+        world = World(config_of(range(1, 3)), within={'holder.starting.RELOADED': LONG})
+        self.addCleanup(world.__exit__)
+        aligned(world)
+        call(world, 1)
+        words = [sys.executable, '-B', support.launcher('ctl'), world.path('ctl'), *'codec 1 g726-32 96 save'.split()]
+        done = subprocess.run(words, capture_output=True, text=True, check=False)
+        self.assertEqual((done.stdout.splitlines(), done.returncode, done.stderr), (
+            ['codec 1: done', 'reload: circuits 1 are when their calls end', 'reload: done'], 0, ''))
+        support.until(lambda: bool(world.known()['waiting'] == [1]))
+        self.assertEqual(world.state(1), 'answered')
+        self.assertEqual(world.ask('clear 1'), 'clear 1: done')
+        world.until(lambda: [('g726-32', 'g726-32'), ('pcma', 'pcma')] == [
+            (row['codec'], row['configured_codec']) for row in world.told()['circuits'][:2]])

@@ -146,9 +146,17 @@ class TrialTests(support.FolderCase):
         with self.assertRaisesRegex(trial.TrialRefused, 'wait for no call'):
             found(text('g726-32', 'pcma', 'pcma', host='127.0.0.2'), when_idle=True)
         self.assertEqual(found(text('pcma', 'pcma', 'pcma')), ([], '', '', True))
-        with open(support.program(), 'rb') as other, open(self.config, 'rb') as another:
-            self.assertTrue(trial.is_same_file(self.asked(program_before=other.fileno())))
-            self.assertFalse(trial.is_same_file(self.asked(program_before=another.fileno())))
+        for prefill in 0, 80:
+            table = {'number': 1, 'codec': 'g726-32', 'payload': 96, **({'prefill': prefill} if prefill else {})}
+            then = trial.in_pieces({'host': '127.0.0.1', 'circuit': [table]}, 'host', '')
+            self.assertEqual(trial.has_codec(before, then, 1, {1: ('g726-32', 96)}), not prefill)
+
+    def test_the_same_program(self) -> None:
+        """By its file."""
+        copy = shutil.copy2(support.program(), self.path('copy'))
+        for path, is_same in (support.program(), True), (copy, False):
+            with open(path, 'rb') as other:
+                self.assertEqual(trial.is_same_file(self.asked(program_before=other.fileno())), is_same)
 
     def test_what_can_begin(self) -> None:
         self.assertEqual(self.answer(what='begin'), {})

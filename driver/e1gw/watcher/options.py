@@ -14,7 +14,7 @@ from ..trunks import host_and_port
 from .recordings import RecordingWants
 from .watch import WatchWants
 
-WATCHED = 'control', 'http', 'json', 'calls', 'session'       # what an operator may have of a trunk
+WATCHED = 'config', 'control', 'http', 'json', 'calls', 'session'     # what an operator may have of a trunk
 KEPT = '/var/lib/e1gw'      # where e1gw-call looks by itself
 
 

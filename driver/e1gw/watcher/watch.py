@@ -58,6 +58,7 @@ class WatchWants:
     json: str | None = None
     calls: str | None = None
     session: str | None = None
+    config: str = ''
     dark: float | None = None
     on_loss: list[str] = field(default_factory=lambda: ['keep'])
     picture: list[str] = field(default_factory=list)
@@ -249,7 +250,7 @@ class TrunkWatch:
             'senders': facts['senders'], 'log_losses': facts['log_losses'],
             'uptime': 0.0 if fault else round(now - facts['since'], 3),
             'calls': [line._asdict() for line in self.status.calls.going()],
-            'calls_file': wants.calls and os.path.abspath(wants.calls),
+            'config_file': os.path.abspath(wants.config), 'calls_file': wants.calls and os.path.abspath(wants.calls),
             'events_file': wants.json and os.path.abspath(wants.json) if wants.json != '-' else None,
             'session_path': wants.session and os.path.abspath(wants.session),
             'stale': self.counts.stale(), 'ended': self.ended | {'session': facts['session']},
