@@ -10,9 +10,9 @@ from dataclasses import dataclass, replace
 from itertools import takewhile
 from typing import Callable, Iterable, Iterator, Mapping, NamedTuple
 
-from .counts import DatagramCounts
+from .counts import DatagramCounts, PacketsNote
 from .events import LineChanged
-from .lines import IN_CALL, Line, Role, State
+from .lines import IN_CALL, Line, LineCounts, Role, State
 
 MOST_OCTETS = 10 << 20      # of a file, before it is FILE.1
 KEPT = 9                    # FILE.1 to FILE.9
@@ -98,18 +98,29 @@ class CallRecord:
     codec: str = ''
     number: int = 0             # how many calls its line had with it
     counts: dict[str, int] | None = None    # those that were known of its circuit when nobody told any more
-    cause: str = ''             # of its first discard, as far as it was known then
+
+
+@dataclass(frozen=True)
+class CircuitNote:
+    """How a line stands and since when, since when its path is open, and all that was counted of it."""
+
+    state: str
+    since: float
+    opened: float | None
+    line: LineCounts
+    packets: PacketsNote
 
 
 @dataclass(frozen=True)
 class CallsNote:
-    """What another service goes on with: the octet of the trunk up to which changes were told, and the time of day
-    then; each line's state, how often it was seized, and when the state changed; the calls, and the counts at the end
-    of the last call of each circuit; and lines of calls that may not be in their file yet."""
+    """What another service goes on with: the octets of the trunk up to which changes were told, and with which the
+    session has begun that did; the time of day then; each circuit; the calls, and the counts at the end of the last
+    call of each circuit; and lines of calls that may not be in their file yet."""
 
     place: int
+    begun: int
     at: float
-    states: dict[int, tuple[str, int, float]]
+    circuits: dict[int, CircuitNote]
     calls: tuple[CallRecord, ...]
     before: dict[int, dict[str, int]]
     lines: tuple[str, ...]
@@ -181,7 +192,7 @@ class CallLog:
     def left(self) -> None:
         """Nobody tells any more."""
         for n, call in self._calls.items():
-            call.codec, call.counts, call.cause = self._lines[n].codec, self._now(n), self._cause(call)
+            call.codec, call.counts = self._lines[n].codec, self._now(n)
 
     def _unwatched(self, call: CallRecord) -> str:
         """Who ended a call while nobody told: a reload begins a circuit that is configured otherwise as new."""
@@ -213,19 +224,21 @@ class CallLog:
         while self.lines:
             self._put(self.lines.pop(0))
 
-    def note(self, place: int, at: float, waiting: Iterable[str]) -> CallsNote:
-        """What another service goes on with; changes were told up to this place at that time, and these lines wait."""
-        states = {n: (str(line.state), line.seizures, line.since) for n, line in self._lines.items()}
-        calls = (*(replace(call, cause=self._cause(call)) for call in self._calls.values()),)
-        return CallsNote(place, at, states, calls, self._before, (*waiting, *self.lines))
+    def note(self, place: int, begun: int, at: float, waiting: Iterable[str]) -> CallsNote:
+        """What another service goes on with; changes were told up to this place at that time, by a session that has
+        begun before it, and these lines wait."""
+        circuits = {n: CircuitNote(str(line.state), line.since, line.opened, line.counts(),
+                                   self._counts.circuits[n].note()) for n, line in self._lines.items()}
+        return CallsNote(place, begun, at, circuits, (*self._calls.values(),), self._before, (*waiting, *self.lines))
 
     def take_up(self, note: CallsNote) -> None:
         """Goes on with the calls that another service has noted."""
-        self._calls = {call.circuit: replace(call, unacknowledged=0) for call in note.calls}
-        self._before = note.before
-        for n, (state, seizures, since) in note.states.items():
-            self._lines[n].begin(State(state), since)
-            self._lines[n].seizures = seizures
+        self._calls, self._before = {call.circuit: call for call in note.calls}, note.before
+        for n, its in note.circuits.items():
+            line = self._lines[n]
+            line.state, line.since, line.opened = State(its.state), its.since, its.opened
+            line.count_on(its.line)
+            self._counts.circuits[n].take_up(its.packets)
 
     def finish(self) -> None:
         """The trunk is no longer carried: writes all."""
@@ -237,10 +250,6 @@ class CallLog:
         counts = self._counts.circuits[circuit]
         return {**counts.counts(), 'lost': counts.numbers.lost, 'discarded': counts.discarded()}
 
-    def _cause(self, call: CallRecord) -> str:
-        """Why the first packet of a call was discarded, if one was."""
-        return call.cause or self._counts.circuits[call.circuit].cause
-
     def _line(self, call: CallRecord, now: Mapping[str, int]) -> CallLine:
         before = self._before.get(call.circuit, {})
         # (a packet that was thought lost may come behind the end of its call)
@@ -249,7 +258,7 @@ class CallLog:
         if call.by == 'unwatched':
             told[2:] = [''] * 3     # of its last packets nobody has told more
         *packets, discarded = told
-        cause = self._cause(call) if discarded not in ('', '0') else ''
+        cause = self._counts.circuits[call.circuit].cause if discarded not in ('', '0') else ''
         return CallLine._make((self._trunk, str(call.circuit), str(self._lines[call.circuit].role), moment(call.seized),
                                moment(call.answered), moment(call.ended), call.by, call.codec, *packets, self._id(call),
                                discarded, cause))

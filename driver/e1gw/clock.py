@@ -73,7 +73,7 @@ class Clock:
     def __init__(self, now: float, gap: float = 0.1) -> None:
         self.gap = gap
         self.octets = 0
-        self.gaps, self.lost_seconds = 0, 0.0       # how many there were, and how long in all
+        self.gaps, self.lost_seconds = 0, 0.0       # how many there were, and how long in all; another one counts on
         self.ppm: float | None = None
         self.off_rate, self.rate = False, TrunkRate()
         self._began = self._last = self._looked = now

@@ -14,7 +14,7 @@ NOT_OPEN = REASONS.index(DatagramRefusal.NOT_OPEN)
 SAMPLES = 8                         # in a millisecond
 
 
-@dataclass(frozen=True, slots=True)
+@dataclass(frozen=True)
 class ToldCounts:
     """The datagrams that a session was given for a circuit, as a line `counts` has them. ValueError if it has not a
     number for each reason."""
@@ -30,6 +30,17 @@ class ToldCounts:
     def behind(self, before: ToldCounts) -> ToldCounts:
         """These and those of sessions before."""
         return ToldCounts(before.accepted + self.accepted, self.jitter, tuple(map(add, before.refused, self.refused)))
+
+
+@dataclass(frozen=True)
+class PacketsNote:
+    """What another service goes on with: the counts of the sessions before, and of the one of now; how many were lost;
+    the cause of the first discard of a call."""
+
+    before: ToldCounts
+    told: ToldCounts
+    lost: int
+    cause: str
 
 
 @dataclass(slots=True)
@@ -49,6 +60,12 @@ class CircuitCounts:
     def stream(self) -> ToldCounts:
         """Those of all sessions that told of them."""
         return self.told.behind(self.before)
+
+    def note(self) -> PacketsNote:
+        return PacketsNote(self.before, self.told, self.numbers.lost, self.cause)
+
+    def take_up(self, note: PacketsNote) -> None:
+        self.before, self.told, self.numbers.before, self.cause = note.before, note.told, note.lost, note.cause
 
     def begin_call(self) -> None:
         """What comes from now on is of another call, whose peer may number anew."""
@@ -114,6 +131,11 @@ class DatagramCounts:
         """A part of the log was not read."""
         for row in self.circuits.values():
             row.numbers.begin()
+
+    def take_causes(self, known: DatagramCounts) -> None:
+        """The causes are those that are known of the calls of now."""
+        for n, row in self.circuits.items():
+            row.cause = known.circuits[n].cause
 
     def take(self, circuit: int, told: ToldCounts) -> None:
         """What a session has counted for a circuit up to now, of which nothing is known one by one."""

@@ -3,7 +3,7 @@ from __future__ import annotations
 
 import ipaddress
 import tomllib
-from dataclasses import dataclass
+from dataclasses import astuple, dataclass
 from enum import StrEnum
 from typing import Any, Iterable, Mapping
 
@@ -44,6 +44,17 @@ LEADS = {Command.SEIZE: State.SEIZED, Command.CLEAR: State.RELEASING, Command.AN
 PAIRS = {None: '--', 0: '00', 1: '01', 2: '10', 3: '11'}
 
 
+@dataclass(frozen=True)
+class LineCounts:
+    """How often a line did what; `open_for` are seconds with the path open, before the stretch of now."""
+
+    seizures: int = 0
+    answers: int = 0
+    unacknowledged: int = 0
+    faults: int = 0
+    open_for: float = 0.0
+
+
 @dataclass(slots=True)
 class Line:
     """One circuit's line, and how often it did what. Times are seconds of the clock that it is followed by."""
@@ -69,6 +80,13 @@ class Line:
     def begin(self, state: State, now: float) -> None:
         """This is its state; what was before is not known."""
         self.state, self.since, self.opened = state, now, now if state in OPEN else None
+
+    def counts(self) -> LineCounts:
+        return LineCounts(self.seizures, self.answers, self.unacknowledged, self.faults, self.open_for)
+
+    def count_on(self, counts: LineCounts) -> None:
+        """These are its counts up to now."""
+        self.seizures, self.answers, self.unacknowledged, self.faults, self.open_for = astuple(counts)
 
     def commanded(self, command: Command) -> None:
         """Counts a command that was done."""

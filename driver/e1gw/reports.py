@@ -33,7 +33,7 @@ class TrunkState:
         self.remote = {each: False for each in Alignment}       # that the other end sends
         self.known = False                  # whether a whole state was ever told
         self.live = False                   # whether changes are reported now
-        self._before = 0                    # the place at which this session has begun
+        self.begun = 0                      # the place at which this session has begun
         self._held = ''
         self.seizures: dict[int, int] = {}  # how often each line was seized in this session
         self._led: dict[int, State] = {}    # where commands have led lines whose state is still to be told
@@ -65,9 +65,9 @@ class TrunkState:
     def begin(self, place: int | None = None) -> None:
         """A program is there that will tell the whole state; its session has begun at this place, by default that of
         now."""
-        if place is None or place != self._before:
+        if place is None or place != self.begun:
             self.counts.begin()
-        self._before = self.place if place is None else place
+        self.begun = self.place if place is None else place
         self._held, self.live, self._words = '', False, self._greeting
         self._led.clear()
         self.seizures = {}
@@ -113,7 +113,7 @@ class TrunkState:
         self._words = self._changes
 
     def _at(self, place: str) -> None:
-        self.place = self._before + int(place)
+        self.place = self.begun + int(place)
 
     def _seizures(self, *counts: str) -> None:
         self.seizures = {n: int(count) for n, count in zip(self.lines, counts, strict=True)}

@@ -131,12 +131,12 @@ class CalledTrunk:
     def replaced(self, states: tuple[State, State], is_another: bool) -> None:
         """Another service goes on with what this one has noted. Nobody tells it how the lines came to stand; behind a
         call there may be another one."""
-        note = self.calls.note(0, self.day, ())
+        note = self.calls.note(0, 0, self.day, ())
         codecs, begun = {call.circuit: call.codec for call in note.calls}, set[int]()
         self.calls = CallLog('west', self.lines, self.counts, self.put, lambda: self.day)
         self.calls.take_up(note)
         for (n, line), state in zip(self.lines.items(), states):
-            was, line.state, line.unacknowledged = line.state, state, 0
+            was, line.state = line.state, state
             is_new = state in IN_CALL and (was not in IN_CALL or is_another and n in self.numbered)
             if n in self.open and (is_new or state not in IN_CALL):
                 self.ends(n, 'unwatched', codecs[n] or line.codec)

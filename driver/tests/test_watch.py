@@ -5,6 +5,7 @@ import asyncio
 import json
 import logging
 import os
+import time
 import unittest
 from types import SimpleNamespace
 from typing import Any
@@ -17,18 +18,20 @@ from e1gw.calls import CallLog, CallsNote
 from e1gw.clock import ClockFinding, TrunkRate
 from e1gw.events import (Burst, CallsCleared, Event, FlowChanged, Flows, RateChanged, ReadEvents, Slip, Stalled,
                          WatchEnded)
-from e1gw.lines import Role, State
+from e1gw.lines import Line, Role, State
 from e1gw.resyncs import Resyncs
 from e1gw.watcher import decisions, events, status, watch
 from e1gw.watcher.commands import MOST_HELD, ControlPeer
 from e1gw.watcher.connection import ProgramConnection
 from e1gw.watcher.journal import NOTICE, LineFormatter
 from e1gw.watcher.missed import MissedReports
+from e1gw.watcher.note import typed
 from e1gw.watcher.page import PageNotes, body_of, parts_of
 from e1gw.watcher.pages import MOST_VISITORS, TrunkPages, WebServer
-from e1gw.session import OCTETS_A_SECOND, Command, command_record
+from e1gw.session import CIRCUITS, OCTETS_A_SECOND, Command, command_record
 
 
+COUNTED = 'seizures', 'answers', 'unacknowledged', 'faults', 'lost', 'datagrams'
 FACTS: dict[str, Any] = {'since': 0.0, 'fault': '', 'version': '', 'senders': '', 'log_losses': 0, 'carried': {},
                          'pair': {}, 'session': None}
 
@@ -73,6 +76,47 @@ class WatchEdgeTests(TrunkWatchCase):
             await asyncio.sleep(0)
             self.assertEqual([record[:2] for record in self.given], given)
             self.assertEqual(found._values()['renewed'], len(given))
+
+    async def test_counts_go_on(self) -> None:
+        """Behind another watcher, and behind one that has no note but of how calls are named."""
+        found, commands = self.watched(), ('command 3 1 0', 'command 4 1 0')
+        change = [row(3, 'seized', '00 10'), row(4, 'seized', '00 10'), row(3, 'acked', '00 11'), row(4, 'idle'),
+                  row(3, 'answered', '00 01'), row(5, 'fault'), counts(3, 9, Late=2)]
+        setattr(found.status, 'tell', found.tell)
+        found.drains = mock.Mock(**{'kept.now.word.return_value': None})
+        found._lines.begin(4096)
+        found._lines.take('\n'.join([*BEGIN, 'now', *commands, *change, '']).encode())
+        found.counts.circuits[3].numbers.before = 5
+        found.count(3, 'seize', 'done')
+        found._resyncs = 4
+        found._lines.lines[3].opened = time.monotonic() - 5.0
+        calls, shown, wanted = found.status.calls_note(), found.shown(), found._values()
+        assert calls
+        found._lines.take('\n'.join([row(3, 'fault'), row(5, 'idle'), row(4, 'answered'), '']).encode())
+        later = self.watched()
+        later.drains = found.drains
+        later.was_shown(typed(watch.ShownNote, json.loads(json.dumps(shown, default=vars))))
+        later.take_up(typed(CallsNote, json.loads(json.dumps(calls, default=vars))))
+        its = later._values()
+        self.assertEqual([its[key] for key in ('renewed', 'commands')], [4, [
+            {'command': 'seize', 'answer': 'done', 'count': 1}]])
+        for n in 3, 4, 5:
+            before, after = wanted['circuits'][n - 1], its['circuits'][n - 1]
+            self.assertEqual({key: after[key] for key in COUNTED}, {key: before[key] for key in COUNTED}, n)
+            self.assertGreaterEqual(after['open'], before['open'])
+        self.assertGreaterEqual(wanted['circuits'][2]['open'], 5.0)
+        self.assertEqual([[row[key] for key in COUNTED[:4]] for row in its['circuits'][2:5]],
+                         [[1, 1, 0, 0], [1, 0, 1, 0], [0, 0, 0, 1]])
+        self.assertEqual((its['circuits'][2]['lost'], its['circuits'][2]['datagrams']['Late']), (5, 2))
+        naming, lines = CallNames(self.path('trunk.toml.calls')), {n: Line(n) for n in CIRCUITS}
+        naming.begin('another', {n: 0 for n in CIRCUITS}, lines)
+        self.assertEqual([[getattr(lines[n], key) for key in COUNTED[:4]] for n in (3, 4, 5)],
+                         [[getattr(found._lines.lines[n], key) for key in COUNTED[:4]] for n in (3, 4, 5)])
+        for begun, late, all_late in (4096, 2, 2), (8192, 1, 3):        # (the same session, and then another one)
+            later._lines.begin(begun)
+            later._lines.take('\n'.join([*BEGIN, row(3, 'answered', '00 01', (0, 9, all_late)), counts(
+                3, 9, Late=late), 'now', '']).encode())
+            self.assertEqual(later._values()['circuits'][2]['datagrams']['Late'], all_late)
 
     async def test_a_wrong_rate(self) -> None:
         """It is an alarm, and red in the first line, up to the right one, also behind another watcher."""
@@ -136,7 +180,7 @@ class WatchEdgeTests(TrunkWatchCase):
         """Each is in the file once."""
         self.write('calls', 'a line\n')
         found = self.watched()
-        found.take_up(CallsNote(0, 0.0, {}, (), {}, ('a line', 'another line')))
+        found.take_up(CallsNote(0, 0, 0.0, {}, (), {}, ('a line', 'another line')))
         found._close()
         self.assertEqual(support.text_of(self.path('calls')), 'a line\nanother line\n')
 
@@ -146,7 +190,7 @@ class WatchEdgeTests(TrunkWatchCase):
         for is_known in True, False:
             its = self.watched().status
             if is_known:
-                its.take_up(CallsNote(OCTETS_A_SECOND, 0.0, {}, (), {}, ()))
+                its.take_up(CallsNote(OCTETS_A_SECOND, 0, 0.0, {}, (), {}, ()))
             missed = MissedReports(OCTETS_A_SECOND, False, 3 * OCTETS_A_SECOND, 3 * OCTETS_A_SECOND + 1024, text)
             with mock.patch.object(its._trunk, 'missed', mock.AsyncMock(return_value=missed)), \
                     mock.patch.object(status, 'logger') as told:

@@ -20,7 +20,7 @@ from .keepers import CIRCUITS
 from .support import SECONDS, octets_in
 from e1gw.exchange import IDLE
 from e1gw.holder_state import STARTED_BY, TrunkPlaces
-from e1gw.session import Command
+from e1gw.session import Command, Packet
 from e1gw.testing.ports import free_port
 from e1gw.testing.service import ask
 from e1gw.testing.waits import not_within
@@ -336,6 +336,47 @@ class WatcherAgainTests(WatcherCase):
         self.watches()
         self.known()
         self.assertEqual((len(events_in(self.path('events'))), self.called()), (told, lines))
+
+    def counts(self, status: dict[str, Any]) -> dict[str, Any]:
+        """All that is counted of the trunk and of each circuit, but what goes on rising."""
+        numbers = 'circuit', 'seizures', 'answers', 'unacknowledged', 'faults', 'lost'
+        rows = [{key: row[key] for key in numbers} | row['datagrams'] | {'sent': 0} for row in status['circuits']]
+        clock = {key: status['clock'][key] for key in ('stalls', 'gaps', 'gap_seconds')}
+        return {key: status[key] for key in ('losses', 'renewed', 'commands', 'log_losses')} | clock | {'rows': rows}
+
+    def test_counts_go_on(self) -> None:
+        """All of them, behind a watcher that was killed and one that was ended: none begins anew beside others."""
+        self.starts_holder()
+        self.watches()
+        self.device.accept()
+        self.goes_on()
+        self.calls()
+        self.known(lambda status: {row['state'] for row in status['circuits']} == {'answered'})
+        self.speech_to = '127.0.0.1'
+        self.step(100)
+        self.now = 10 * (self._spoken + 6)      # (of each circuit five packets are lost)
+        self.step(30)
+        self.speech_to = ''
+        wrong = Packet(13, self._spoken + 1, 0, 4, bytes(160)).encode()
+        ports = {n: port for port, n in self.peers.circuits.items()}
+        self.peers.socket.sendto(wrong, ('127.0.0.1', ports[4]))
+        self.step(150)
+        self.assertEqual(self.ask('clear 2'), 'clear 2: done')
+        self.device.exchange.pairs[2] = IDLE
+        before = self.known(lambda status: status['circuits'][1]['state'] == 'idle' and status['circuits'][3][
+            'datagrams'].get('PayloadType'))
+        for row in before['circuits']:
+            self.assertEqual((row['lost'], row['seizures'], row['answers'] > 0), (5, 1, True))
+        for ends in subprocess.Popen.kill, subprocess.Popen.terminate:
+            support.until(lambda: (note := self.note()) and note.read.octets == self.known()['octets'])
+            ends(self.watchers[-1])
+            self.watchers[-1].wait(SECONDS)
+            self.step(20)
+            self.watches()
+            status = self.known()
+            self.assertEqual(self.counts(status), self.counts(before))
+            self.assertTrue(all(now['open'] > row['open'] - 0.5 for now, row in zip(
+                status['circuits'], before['circuits'])))
 
     def is_noted(self) -> bool:
         """Whether it was told, and noted, that the trunk is open."""

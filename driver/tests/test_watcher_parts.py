@@ -8,9 +8,11 @@ from unittest import mock
 
 from . import support
 from e1gw.events import Crc4Changed, Event, LogLost, RoleGiven, SatopChanged, TrunkLost, TrunkOpened
-from e1gw.calls import CallRecord, CallsNote
+from e1gw.calls import CallRecord, CallsNote, CircuitNote
+from e1gw.counts import PacketsNote, ToldCounts
 from e1gw.crc4 import Crc4Note
 from e1gw.holder_state import ACTIVE, INTERFACE, STANDBY, HolderState, TrunkPlaces, other_interface, state_in
+from e1gw.lines import LineCounts
 from e1gw.lock import InUse
 from e1gw.log_folder import LogWriter, logged_by
 from e1gw.session import MULTIFRAME, trunk_record
@@ -63,13 +65,15 @@ class WatchNoteTests(unittest.TestCase):
         note = WatchNote(
             HeldNote(STATE, '8.9', 512, 8, 'ab', LineNote(SaidNote(3, 4), SaidNote(), Crc4Note(
                 {'errored': 1}, None, {}), SlotsNote(False, 1, 2, 3)), 8, 1),
-            ReadingNote(1, 2, 3, ((4, 5.0),), 6.0),
+            ReadingNote(1, 2, 3, ((4, 5.0),), 6.0, 7, 8.0),
             ToldNote(True, 1.0, (True, False) * 2, (1, 2), Flow(1, 2.0, 3.0, 4)),
-            ShownNote((('trunk open', 1.0),), (('alarm frame', 'LFA', 2.0),), ('a,b',)), {1: 'BLOCKED'}, {3: 7},
+            ShownNote((('trunk open', 1.0),), (('alarm frame', 'LFA', 2.0),), ('a,b',), {1: 'Late'}, 5,
+                      (('seize', 'done', 6),)), {1: 'BLOCKED'}, {3: 7},
             RecordingNote('s', 60, '', (('a', 1),), 'p', 1, 2, 3, 4),
-            CallsNote(1, 2.0, {1: ('idle', 3, 4.0)}, (CallRecord(1, 2.0, 3),), {1: {'sent': 5}}, ('line',)))
+            CallsNote(1, 2, 2.0, {1: CircuitNote('idle', 4.0, None, LineCounts(3, 4, 5, 6, 7.0), PacketsNote(
+                ToldCounts(1), ToldCounts(2, 3), 4, 'Late'))}, (CallRecord(1, 2.0, 3),), {1: {'sent': 5}}, ('line',)))
         self.assertEqual(note_in(note.text()), note)
-        for octets in b'', b'{}', note.text().replace(b'"version": 1,', b'"version": 0,'), note.text()[:-9]:
+        for octets in b'', b'{}', note.text().replace(b'"version": 2,', b'"version": 1,'), note.text()[:-9]:
             self.assertIsNone(note_in(octets))
 
     def test_blocks(self) -> None:
@@ -181,6 +185,12 @@ class OpenLogTests(support.FolderCase):
             reader.look()
         self.assertEqual([each.getMessage() for each in told.records], ['the log is read again'])
         self.assertEqual(reader.octets, 2 * MULTIFRAME)
+
+    def test_slips_are_counted_on(self) -> None:
+        first, later = (LogReader(self.path('log'), 0.1, None, lambda: None, lambda: b'') for _ in range(2))
+        first.clock.gaps, first.clock.lost_seconds = 2, 0.5
+        later.take_up(first.noted(), None)
+        self.assertEqual([later.clock.status()[key] for key in ('gaps', 'gap_seconds')], [2, 0.5])
 
     def test_who_has_it(self) -> None:
         os.mkdir(self.path('log'))

@@ -15,7 +15,7 @@ from .recordings import RecordingNote
 from .status import ToldNote
 from .watch import ShownNote
 
-VERSION = 1
+VERSION = 2
 
 
 @dataclass(frozen=True)

@@ -30,13 +30,16 @@ logger = logging.getLogger(__name__)
 class ReadingNote:
     """What the next service has to know of the reading: up to which place of the log that is, and the octet of the
     trunk there; the octet from which on the log is of this machine, and of one configuration; the octets with which
-    the last programs began, each with the time of day; and when the log was written up to that place."""
+    the last programs began, each with the time of day; when the log was written up to that place; and how many slips
+    there were, of how many seconds."""
 
     place: int = -1
     octets: int = 0
     first: int = 0
     starts: tuple[tuple[int, float], ...] = ()
     written: float = 0.0
+    gaps: int = 0
+    lost_seconds: float = 0.0
 
 
 def octets_in(news: Sequence[LogNews]) -> int:
@@ -77,6 +80,7 @@ class LogReader:
         was of the same and the log has what it lacks."""
         self.log.place, self.octets, self._written = read.place, read.octets, read.written
         self.first, self.starts = read.first, read.starts
+        self.clock.gaps, self.clock.lost_seconds = read.gaps, read.lost_seconds
         if files:
             self.log.goes_on(files)
         self._found = self.log.pairs()
@@ -168,7 +172,8 @@ class LogReader:
         return self.log.files.files if self.log.files else {}
 
     def noted(self) -> ReadingNote:
-        return ReadingNote(self.log.place, self.octets, self.first, self.starts, self._written)
+        return ReadingNote(self.log.place, self.octets, self.first, self.starts, self._written, self.clock.gaps,
+                           self.clock.lost_seconds)
 
     def recording_note(self) -> RecordingNote | None:
         recording = self._recording

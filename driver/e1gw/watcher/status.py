@@ -80,11 +80,10 @@ class TrunkStatus:
         """Goes on with the calls of the watcher before this one."""
         self.calls.life = self.naming.known(self.lines.lines)
         self.calls.take_up(note)
-        self.lines.place, self._at, self._is_known = note.place, note.at, True
+        self.lines.place, self.lines.begun, self._at, self._is_known = note.place, note.begun, note.at, True
 
     async def _catch_up(self, last: int) -> None:
-        """What happened up to this octet of the trunk, which comes now, and nobody told, since no service or no program
-        was there, is read in the log, as far as that reaches."""
+        """What happened up to this octet of the trunk, and nobody told, is read in the log, as far as that reaches."""
         place, self._is_caught_up, self._until = self.lines.place, False, (last, time.time())
         missed = await self._trunk.missed(place)
         if not missed or missed.since > missed.last or not (self._is_known or missed.reaches()):
@@ -117,6 +116,7 @@ class TrunkStatus:
             self.calls.life = self.naming.known(self.lines.lines)
         self.calls.counts_on()
         again.take(changes)
+        self.lines.counts.take_causes(again.counts)
 
     def _behind(self) -> float:
         """By how many seconds that is late which is told now. Octets behind the begin of the program of now came as
@@ -262,7 +262,7 @@ class TrunkStatus:
 
     def calls_note(self) -> CallsNote | None:
         """What another service has to know of the calls."""
-        return self.calls.note(self.lines.place, self._at, self.waiting()) if self._is_known else None
+        return self.calls.note(self.lines.place, self.lines.begun, self._at, self.waiting()) if self._is_known else None
 
     def _told_all(self) -> None:
         self._is_known = self._has_changed = True

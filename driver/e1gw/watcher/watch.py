@@ -68,12 +68,15 @@ class WatchWants:
 @dataclass(frozen=True)
 class ShownNote:
     """What pages show beside the status: the last events; alarms that stand, by what they are; the lines of the last
-    calls; circuits that hear nothing, with the cause."""
+    calls; circuits that hear nothing, with the cause; how many jitter buffers were resynchronised, and how many
+    commands had which answer."""
 
     last: tuple[tuple[str, float], ...]
     alarms: tuple[tuple[str, str, float], ...]
     ended: tuple[str, ...]
     deaf: dict[int, str] = field(default_factory=dict)
+    resyncs: int = 0
+    commands: tuple[tuple[str, str, int], ...] = ()
 
 
 class TrunkWatch:
@@ -171,7 +174,8 @@ class TrunkWatch:
         """What pages show beside the status."""
         alarms = ((key, each.words, each.time) for key, each in self._events.standing().items())
         last = ((each.words, each.time) for each in self._events.last)
-        return ShownNote((*last,), (*alarms,), (*self._ended_calls,), self._deaf.causes)
+        commands = ((*words, count) for words, count in self._done.items())
+        return ShownNote((*last,), (*alarms,), (*self._ended_calls,), self._deaf.causes, self._resyncs, (*commands,))
 
     def was_shown(self, note: ShownNote) -> None:
         """Pages show it again."""
@@ -179,6 +183,8 @@ class TrunkWatch:
                            {key: ReadEvent(words, at) for key, words, at in note.alarms})
         self._ended_calls.extend(note.ended)
         self._deaf.take_up(note.deaf)
+        self._resyncs = note.resyncs
+        self._done.update({(command, answer): count for command, answer, count in note.commands})
         self.trunk.reader.clock.rate.is_wrong = WrongRate.name in self._events.standing()
 
     def _put_call(self, line: str) -> None:
