@@ -13,7 +13,7 @@ import sys
 import threading
 import tomllib
 from contextlib import closing
-from dataclasses import dataclass, replace
+from dataclasses import dataclass
 from importlib import import_module
 from typing import Any, Callable, Iterable, Mapping, Sequence
 

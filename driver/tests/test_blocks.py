@@ -239,7 +239,8 @@ class KeptTests(support.FolderCase, unittest.IsolatedAsyncioTestCase):
         for octets in (b'', b'7', b'{"1": 2}', b'[1', b'[31, "a"]', b'\xff'):
             with mock.patch('e1gw.watcher.blocks.logger'):
                 self.assertEqual(KeptBlocks(self.write('bad', octets)).now.circuits, {}, octets)
-        self.assertRegex(await KeptBlocks(self.path('none/blocked')).put(BlockedCircuits()), 'none/blocked.*: No such file')
+        kept = KeptBlocks(self.path('none/blocked'))
+        self.assertRegex(await kept.put(BlockedCircuits()), 'none/blocked.*: No such file')
 
 
 class BlockedTrunkTests(unittest.TestCase):

@@ -133,7 +133,7 @@ class TrialTests(support.FolderCase):
 
         def found(config: str, **more: Any) -> tuple[list[int], str, str, bool]:
             path = self.write('new.toml', config)
-            asked = self.asked(**{'config': path, 'before': vars(before), 'program_before': self.file} | more)
+            asked = self.asked(**{'config': path, 'before': before._asdict(), 'program_before': self.file} | more)
             its = trial.tried(asked)
             self.assertEqual([n for n in before.circuits if its['tried']['circuits'][n] == before.circuits[n]],
                              [*its['tried']['wait']] or ([1, 2, 3] if its['runs'] else []))

@@ -83,7 +83,7 @@ class WatchEdgeTests(TrunkWatchCase):
         change = [row(3, 'seized', '00 10'), row(4, 'seized', '00 10'), row(3, 'acked', '00 11'), row(4, 'idle'),
                   row(3, 'answered', '00 01'), row(5, 'fault'), counts(3, 9, Late=2)]
         setattr(found.status, 'tell', found.tell)
-        found.drains = mock.Mock(**{'kept.now.word.return_value': None})
+        found.blocks = mock.Mock(**{'kept.now.word.return_value': None})
         found._lines.begin(4096)
         found._lines.take('\n'.join([*BEGIN, 'now', *commands, *change, '']).encode())
         found.counts.circuits[3].numbers.before = 5
@@ -94,7 +94,7 @@ class WatchEdgeTests(TrunkWatchCase):
         assert calls
         found._lines.take('\n'.join([row(3, 'fault'), row(5, 'idle'), row(4, 'answered'), '']).encode())
         later = self.watched()
-        later.drains = found.drains
+        later.blocks = found.blocks
         later.was_shown(typed(watch.ShownNote, json.loads(json.dumps(shown, default=vars))))
         later.take_up(typed(CallsNote, json.loads(json.dumps(calls, default=vars))))
         its = later._values()

@@ -12,6 +12,7 @@ from dataclasses import dataclass
 from typing import Any, Awaitable, Callable
 
 from ..ctl_all import asked_trunks
+from ..faults import named
 from ..lines import Line
 from ..metrics import exposition, table
 from ..priority import put_behind
@@ -122,6 +123,14 @@ class PageAnswer:
 
     def encode(self, is_whole: bool) -> bytes:
         return f'{self.head()}Content-Length: {len(self.body)}\r\n\r\n'.encode() + self.body * is_whole
+
+
+def web_listener(host: str, port: int) -> socket.socket:
+    """Where pages are asked for. OSError says what is refused."""
+    try:
+        return socket.create_server((host, port), family=socket.AF_INET6 if ':' in host else socket.AF_INET)
+    except OSError as fault:
+        raise named(fault, f'--http {host}:{port}') from None
 
 
 class WebServer:

@@ -6,7 +6,6 @@ import asyncio
 import contextlib
 import logging
 import os
-import socket
 import sys
 import time
 from collections import Counter, deque
@@ -21,7 +20,7 @@ from ..counts import DatagramCounts
 from ..deaf import DeafCalls
 from ..events import (LAST, Burst, CallsCleared, CommandGiven, Event, LineChanged, RateChanged, ReadEvent, ReadEvents,
                       Slip, WatchEnded, WrongRate)
-from ..faults import named, words_of_refusal
+from ..faults import words_of_refusal
 from ..lines import Role, State
 from ..resyncs import Resyncs
 from ..session import Codec, Command, codec_record, command_record
@@ -33,7 +32,7 @@ from .events import EventFile, json_line, tell_journal
 from .idle_reloads import IdleReloadWatch
 from .journal import NOTICE
 from .page import PageNotes
-from .pages import TrunkPages, WebServer
+from .pages import TrunkPages, WebServer, web_listener
 from .status import WATCH, TrunkStatus
 from .tasks import Tasks, again, every, guarded, has_failed
 from .trunk import WatchedTrunk
@@ -63,6 +62,13 @@ class WatchWants:
     on_loss: list[str] = field(default_factory=lambda: ['keep'])
     picture: list[str] = field(default_factory=list)
     kept: str | None = None
+
+    def files(self) -> dict[str, Any]:
+        """What it is made of, where it is kept and shown, for a status."""
+        events = None if self.json == '-' else self.json
+        return {'config_file': os.path.abspath(self.config), 'calls_file': self.calls and os.path.abspath(self.calls),
+                'events_file': events and os.path.abspath(events),
+                'session_path': self.session and os.path.abspath(self.session), 'http': self.http}
 
 
 @dataclass(frozen=True)
@@ -256,11 +262,8 @@ class TrunkWatch:
             'senders': facts['senders'], 'log_losses': facts['log_losses'],
             'uptime': 0.0 if fault else round(now - facts['since'], 3),
             'calls': [line._asdict() for line in self.status.calls.going()],
-            'config_file': os.path.abspath(wants.config), 'calls_file': wants.calls and os.path.abspath(wants.calls),
-            'events_file': wants.json and os.path.abspath(wants.json) if wants.json != '-' else None,
-            'session_path': wants.session and os.path.abspath(wants.session),
-            'stale': self.counts.stale(), 'ended': self.ended | {'session': facts['session']},
-            'renewed': self._resyncs, 'alarms': self._events.alarms(), 'http': wants.http,
+            **wants.files(), 'stale': self.counts.stale(), 'ended': self.ended | {'session': facts['session']},
+            'renewed': self._resyncs, 'alarms': self._events.alarms(),
             'waiting': self._reloads.waiting(),
             'commands': [{'command': name, 'answer': answer, 'count': n}
                          for (name, answer), n in sorted(self._done.items())]}
@@ -280,13 +283,8 @@ class TrunkWatch:
         if wants.control:
             await self._listen(wants.control)
         if wants.http:
-            family = socket.AF_INET6 if ':' in wants.http[0] else socket.AF_INET
-            try:
-                line = socket.create_server(wants.http, family=family)
-            except OSError as fault:
-                raise named(fault, f'--http {wants.http[0]}:{wants.http[1]}') from None
             server = WebServer(self.pages.fresh, wants.http[0], wants.picture)
-            await asyncio.start_server(server.came, sock=line, limit=8192)
+            await asyncio.start_server(server.came, sock=web_listener(*wants.http), limit=8192)
 
     async def _listen(self, path: str) -> None:
         listener = unix_listener(path, self.wants.control_mode, self.wants.control_group)
