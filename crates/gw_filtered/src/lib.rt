@@ -9,6 +9,6 @@ mod switches;
 
 pub use incoming::FilteredInput;
 pub use outgoing::FilteredOutput;
-pub use phased::{Phase, PhasedFilter};
+pub use phased::PhasedFilter;
 pub use pieces::PieceFilter;
-pub use switches::{Switch, SwitchedFilter};
+pub use switches::SwitchedFilter;

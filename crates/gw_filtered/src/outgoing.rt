@@ -139,7 +139,7 @@ impl<O: TrunkOutput, F: PieceFilter> TrunkOutput for FilteredOutput<O, F> {
         (O.is_full d.outgoing ⊎ TookNone O.has_failed O.has_taken d.outgoing) };
 
     ghost was_given = { λ d octets. 0 < length octets
-        → WasOfferedOrNone F.may_return_none (O.was_given d.outgoing) d.held.items };
+        → WasOfferedOrNone (F.may_return_none d.filter) (O.was_given d.outgoing) d.held.items };
 
     ghost waits = { λ d. O.waits d.outgoing };
 
@@ -156,7 +156,8 @@ impl<O: TrunkOutput, F: PieceFilter> TrunkOutput for FilteredOutput<O, F> {
             (O.is_full self.new.outgoing ⊎ TookNone O.has_failed O.has_taken self.new.outgoing))) }
         ensures full { IfOk result (λ n. IfNone n (O.is_full self.new.outgoing)) }
         ensures given { 0 < length octets.now
-            → WasOfferedOrNone F.may_return_none (O.was_given self.new.outgoing) self.new.held.items }
+            → WasOfferedOrNone (F.may_return_none self.new.filter) (O.was_given self.new.outgoing)
+            self.new.held.items }
         ensures err { IfErr result (λ _. TookNone O.has_failed O.has_taken self.new.outgoing) }
     {
         if !give_now(&mut self.outgoing, &mut self.held)? {

@@ -4,45 +4,35 @@ ghost use Rattle.std.specs.Prelude.{◌≡◌, ◌<◌, []};
 ghost use Rattle.gw_filtered.specs.Filters.{ReturnsBehind};
 
 use gw_filter::BufferFilter;
-use std::marker::{Brand, PhantomData};
-
-/// A place in a multiframe at which a filter begins. Each call of a program picks it.
-pub trait Phase {
-    ghost use Rattle.std.specs.Prelude.{ℕ};
-
-    ghost place: { ℕ };
-}
-
-impl Phase for Brand {
-    ghost place = { 0 };
-}
+use gw_records::AtStart;
 
 /// A filter that was given octets of ones before the first octet, as many as its place says. What it
 /// returned for the ones is dropped.
 #[derive(Drop)]
-pub struct PhasedFilter<F: BufferFilter, P: Phase> {
+pub struct PhasedFilter<F: BufferFilter> {
     filter: F,
-    of: PhantomData<P>,
+    place: AtStart<usize>,
 }
 
-impl<F: BufferFilter, P: Phase> PhasedFilter<F, P> {
+impl<F: BufferFilter> PhasedFilter<F> {
     /// A filter at this place of the first multiframe.
-    pub fn new(mut filter: F, place: usize) -> PhasedFilter<F, P>
-        requires place { (place ≡ P.place) × (place < 512) }
+    pub fn new(mut filter: F, place: usize) -> PhasedFilter<F>
+        requires place { place < 512 }
         requires begins { F.has_returned filter [] [] }
-        ensures { ReturnsBehind P.place (F.has_returned result.filter) [] [] }
+        ensures place { result.place.value ≡ place }
+        ensures begins { ReturnsBehind result.place.value (F.has_returned result.filter) [] [] }
     {
         let mut ones = [0xffu8; 512];
         filter.filter_buffer(&mut ones[..place]);
         PhasedFilter {
             filter,
-            of: PhantomData,
+            place: AtStart::of(&place),
         }
     }
 }
 
-impl<F: BufferFilter, P: Phase> BufferFilter for PhasedFilter<F, P> {
-    ghost has_returned = { λ p. ReturnsBehind P.place (F.has_returned p.filter) };
+impl<F: BufferFilter> BufferFilter for PhasedFilter<F> {
+    ghost has_returned = { λ p. ReturnsBehind p.place.value (F.has_returned p.filter) };
 
     fn filter_buffer(&mut self, octets: &mut [u8]) {
         self.filter.filter_buffer(octets);

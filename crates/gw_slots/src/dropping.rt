@@ -5,10 +5,9 @@ ghost use Rattle.std.specs.Prelude.{is_some, MatchOption};
 ghost use Rattle.gw_slots.specs.Dropping.{HasFramed, begun_count};
 
 use crate::begun::BegunFrame;
-use crate::receiving::DeviceSlots;
 use arrayvec::ArrayVec;
 use gw_filtered::PieceFilter;
-use std::marker::PhantomData;
+use gw_records::AtStart;
 
 const FRAME: u8 = 32;
 
@@ -19,18 +18,19 @@ const LAST: usize = 30;
 /// pass as they came. So a program that dies leaves its device at the end of a frame, and the next one
 /// begins with one.
 #[derive(Drop)]
-pub struct SlotDropper<S: DeviceSlots> {
+pub struct SlotDropper {
     frame: Option<BegunFrame>,
-    of: PhantomData<S>,
-    ghost is: { is_some frame ≡ S.is_on },
+    // The place of the first octet.
+    place: AtStart<u16>,
 }
 
-impl<S: DeviceSlots> SlotDropper<S> {
+impl SlotDropper {
     /// A dropper for octets from this place in a multiframe on, if it is used.
-    pub fn new(is_on: bool, place: u16) -> SlotDropper<S>
-        requires on { is_on ≡ S.is_on }
-        requires place { (place ≡ S.place) × (place < 512) }
-        ensures { ⟦<SlotDropper<S> as PieceFilter>⟧.has_returned result [] [] }
+    pub fn new(is_on: bool, place: u16) -> SlotDropper
+        requires { place < 512 }
+        ensures on { is_some result.frame ≡ is_on }
+        ensures place { result.place.value ≡ place }
+        ensures begins { ⟦<SlotDropper as PieceFilter>⟧.has_returned result [] [] }
     {
         let frame = if is_on {
             Some(BegunFrame {
@@ -43,7 +43,7 @@ impl<S: DeviceSlots> SlotDropper<S> {
         };
         SlotDropper {
             frame,
-            of: PhantomData,
+            place: AtStart::of(&place),
         }
     }
 }
@@ -91,11 +91,11 @@ impl BegunFrame {
     }
 }
 
-impl<S: DeviceSlots> PieceFilter for SlotDropper<S> {
+impl PieceFilter for SlotDropper {
     ghost has_returned = { λ d taken returned. MatchOption d.frame (returned ≡ taken)
-        (λ f. HasFramed f S.place taken returned) };
+        (λ f. HasFramed f d.place.value taken returned) };
 
-    ghost may_return_none = { S.is_on };
+    ghost may_return_none = { λ d. is_some d.frame };
 
     fn pass(&mut self, octets: &[u8], returned: &mut ArrayVec<u8, 512>) {
         match &mut self.frame {

@@ -7,11 +7,11 @@ ghost use Rattle.gw_trunk.specs.Device.{IsTaken, octets_taken};
 ghost use Rattle.gw_slots.specs.Receiving.{HasMadeWhole, longest_read, most_read};
 ghost use Rattle.gw_slots.specs.Frames.{late_from};
 
-use crate::receiving::{DeviceSlots, SlotReceiver};
+use crate::receiving::{SlotReceiver, receiver_from};
 use arrayvec::ArrayVec;
-use gw_records::{Log, RecordHead};
+use e1_g711::Law;
+use gw_records::{AtStart, Log, RecordHead};
 use gw_trunk::{DeviceFault, DeviceRead, TrunkInput, drop_first};
-use std::marker::PhantomData;
 
 // The octets of 64 frames: read at once at most.
 const MOST_READ: usize = 1984;
@@ -25,9 +25,12 @@ pub trait SlotTeller {
 /// A trunk whose device has slots 1 to 31 alone, if its receiver is used: what comes has slot 0 again, and
 /// each octet in its slot. Clients, waits and the end are the trunk's own.
 #[derive(Drop)]
-pub struct SlotInput<I: TrunkInput, T: SlotTeller, S: DeviceSlots> {
+pub struct SlotInput<I: TrunkInput, T: SlotTeller> {
     incoming: I,
     slots: Option<SlotReceiver>,
+    law: AtStart<Law>,
+    // The place in a multiframe of the first octet.
+    place: AtStart<u16>,
     // Octets that have come, for which there was no room.
     held: ArrayVec<u8, 2112>,
     // Whether the last read gave only such octets.
@@ -36,33 +39,35 @@ pub struct SlotInput<I: TrunkInput, T: SlotTeller, S: DeviceSlots> {
     // What was reported last.
     told: Option<u8>,
     log: Log,
-    of: PhantomData<S>,
-    ghost is: { is_some slots ≡ S.is_on },
     ghost came: { ∥ MatchOption slots ((log.octets ≡ I.came incoming) × (held.items ≡ []))
-        (λ s. HasMadeWhole s S.law S.place (I.came incoming) (log.octets ++ held.items)) ∥₁ },
-    ghost said: { ∥ MatchOption slots ⊤ (λ s. told ≡ late_from S.place (I.came incoming)) ∥₁ },
+        (λ s. HasMadeWhole s law.value place.value (I.came incoming) (log.octets ++ held.items)) ∥₁ },
+    ghost said: { ∥ MatchOption slots ⊤ (λ s. told ≡ late_from place.value (I.came incoming)) ∥₁ },
     ghost off: { is_some slots ≡ false → only_held ≡ false },
     ghost few: { length held.items ≤ 1 },
 }
 
-impl<I: TrunkInput, T: SlotTeller, S: DeviceSlots> SlotInput<I, T, S> {
-    /// A trunk of which nothing has come yet, and its receiver before its first octet.
-    pub fn new(incoming: I, slots: Option<SlotReceiver>, teller: T) -> SlotInput<I, T, S>
+impl<I: TrunkInput, T: SlotTeller> SlotInput<I, T> {
+    /// A trunk of this law of which nothing has come yet, and whose first octet is at this place in a
+    /// multiframe. Its device has slots 1 to 31 alone if `is_on` holds.
+    pub fn new(incoming: I, is_on: bool, law: Law, place: u16, teller: T) -> SlotInput<I, T>
         requires came { I.came incoming ≡ [] }
-        requires begins { MatchOption slots ⊤ (λ s. HasMadeWhole s S.law S.place [] []) }
-        requires picked { is_some slots ≡ S.is_on }
+        requires place { place < 512 }
         ensures incoming { result.incoming ≡ incoming }
+        ensures slots { is_some result.slots ≡ is_on }
+        ensures law { result.law.value ≡ law }
+        ensures place { result.place.value ≡ place }
         ensures log { result.log.octets ≡ [] }
     {
         SlotInput {
             incoming,
-            slots,
+            slots: receiver_from(is_on, law, place),
+            law: AtStart::of(&law),
+            place: AtStart::of(&place),
             held: ArrayVec::new(),
             only_held: false,
             teller,
             told: None,
             log: Log::new(),
-            of: PhantomData,
         }
     }
 }
@@ -133,7 +138,7 @@ fn most_read(room: usize) -> usize
     (room / 32 * 31).max(1).min(MOST_READ)
 }
 
-impl<I: TrunkInput, T: SlotTeller, S: DeviceSlots> TrunkInput for SlotInput<I, T, S> {
+impl<I: TrunkInput, T: SlotTeller> TrunkInput for SlotInput<I, T> {
     ghost came = { λ d. d.log.octets };
 
     ghost asked = { λ d. I.asked d.incoming };

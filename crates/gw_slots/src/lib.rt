@@ -8,4 +8,3 @@ mod receiving;
 
 pub use dropping::SlotDropper;
 pub use incoming::{SlotInput, SlotTeller};
-pub use receiving::{DeviceSlots, SlotReceiver};

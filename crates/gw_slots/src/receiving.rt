@@ -1,6 +1,7 @@
 //! The 32 slots of a trunk, from the 31 that its device has (`SlotReceiver`).
 
 ghost use Rattle.std.specs.Prelude.{◌≡◌, ◌≢◌, ◌+◌, ◌*◌, ◌%◌, ◌<◌, ◌≤◌, ◌++◌, ◌∷◌, ℕ, List, [], length};
+ghost use Rattle.std.specs.Prelude.{is_some, MatchOption, ⊤};
 ghost use Rattle.e1_g711.specs.declared.Law.{Law};
 ghost use Rattle.gw_slots.specs.Frames.{late_from, slot_0};
 ghost use Rattle.gw_slots.specs.Receiving.{HasMadeWhole, begun_by, longest_made, longest_read};
@@ -8,7 +9,6 @@ ghost use Rattle.gw_slots.specs.Receiving.{HasMadeWhole, begun_by, longest_made,
 use arrayvec::ArrayVec;
 use e1_g711::{Law, idle};
 use g704_slots::SlotMover;
-use std::marker::Brand;
 
 // Slot 0 with the frame alignment signal, and without: all spare bits are one.
 const SIGNAL: u8 = 0x9b;
@@ -20,45 +20,18 @@ const FRAME: u8 = 32;
 
 const TWO_FRAMES: u8 = 64;
 
-/// Which slots the device of a trunk has, the law of the trunk, and where in a multiframe the gateway begins.
-/// Each call of a program picks it.
-pub trait DeviceSlots {
-    ghost use Rattle.std.specs.Prelude.{ℕ, Bool};
-    ghost use Rattle.e1_g711.specs.declared.Law.{Law};
-
-    /// Whether the device has slots 1 to 31 alone.
-    ghost is_on: { Bool };
-
-    /// The law.
-    ghost law: { Law };
-
-    /// The place in a multiframe of the first octet, both ways.
-    ghost place: { ℕ };
-}
-
-impl DeviceSlots for Brand {
-    ghost use Rattle.std.specs.Prelude.{false};
-    ghost use Rattle.e1_g711.specs.declared.Law.TheVariants.{A};
-
-    ghost is_on = { false };
-
-    ghost law = { A };
-
-    ghost place = { 0 };
-}
-
-/// Makes the 32 slots of a trunk of the 31 that its device has: slot 0 of each frame, and each octet in its
-/// slot, or silence while slot 16 is not found.
-#[derive(Debug, Drop)]
-pub struct SlotReceiver {
+// Makes the 32 slots of a trunk of the 31 that its device has: slot 0 of each frame, and each octet in its
+// slot, or silence while slot 16 is not found.
+#[derive(Drop)]
+pub(crate) struct SlotReceiver {
     mover: SlotMover,
     // The place of the next octet in two frames.
     place: u8,
 }
 
 impl SlotReceiver {
-    /// A receiver of a trunk of this law before its first octet, which is at this place in a multiframe.
-    pub fn new(law: Law, place: u16) -> SlotReceiver
+    // A receiver of a trunk of this law before its first octet, which is at this place in a multiframe.
+    pub(crate) fn new(law: Law, place: u16) -> SlotReceiver
         requires { place < 512 }
         ensures { HasMadeWhole result law place [] [] }
     {
@@ -68,8 +41,8 @@ impl SlotReceiver {
         }
     }
 
-    /// Takes octets of the device, and puts those of the trunk behind others.
-    pub fn octets(&mut self, octets: &[u8], trunk: &mut ArrayVec<u8, 2112>)
+    // Takes octets of the device, and puts those of the trunk behind others.
+    pub(crate) fn octets(&mut self, octets: &[u8], trunk: &mut ArrayVec<u8, 2112>)
         requires few { length octets.now ≤ longest_read }
         requires none { trunk.old.items ≡ [] }
         ensures made { (law : Law) (place : ℕ) (taken made : List ℕ)
@@ -118,8 +91,8 @@ impl SlotReceiver {
         self.place = next(self.place);
     }
 
-    /// By how many octets others are delayed; none while slot 16 is searched for.
-    pub fn late(&self) -> Option<u8>
+    // By how many octets others are delayed; none while slot 16 is searched for.
+    pub(crate) fn late(&self) -> Option<u8>
         ensures { (law : Law) (place : ℕ) (taken made : List ℕ) → HasMadeWhole self.now law place taken made
             → result ≡ late_from place taken }
     {
@@ -143,4 +116,16 @@ fn slot_0(place: u8) -> u8
     } else {
         NO_SIGNAL
     }
+}
+
+// The receiver of a device that has slots 1 to 31 alone, if it has.
+pub(crate) fn receiver_from(is_on: bool, law: Law, place: u16) -> Option<SlotReceiver>
+    requires { place < 512 }
+    ensures is { is_some result ≡ is_on }
+    ensures begins { MatchOption result ⊤ (λ s. HasMadeWhole s law place [] []) }
+{
+    if is_on {
+        return Some(SlotReceiver::new(law, place));
+    }
+    None
 }

@@ -2,7 +2,7 @@
 use Rattle.std.proofs.Common.{◌≡◌, ◌<◌, ◌≤◌, ◌++◌, ℕ, Bool, true, false, List, [], Option, Some, None, refl}
 use Rattle.std.proofs.Common.{Result, Ok, Err, append-nil, arith}
 use Rattle.std.proofs.Math.Logic.{∥∥₁_map₂}
-use Rattle.std.specs.Prelude.{IfOk, IfSome, MatchOption, is_some}
+use Rattle.std.specs.Prelude.{IfOk, IfSome, MatchOption, is_some, option_map}
 use Rattle.e1_g711.specs.declared.Law.{Law}
 use Rattle.g704_bits.specs.Standing.{StandsAfter}
 use Rattle.g704_bits.specs.declared.bits.BitAligner.{BitAligner}
@@ -15,7 +15,6 @@ use Rattle.gw_filter.specs.Filter.{RepliesTo}
 use Rattle.gw_filter.specs.declared.sending.Crc4Sender.{Crc4Sender}
 use Rattle.gw_filter.proofs.Sends.{is_sent}
 use Rattle.gw_filtered.specs.Filters.{ReturnsBehind, ReturnsIf}
-use Rattle.gw_filtered.proofs.Returned.{returned-if}
 use Rattle.gw_slots.specs.Frames.{whole_trunk}
 use Rattle.gw_slots.specs.Receiving.{HasMadeWhole}
 use Rattle.gw_slots.specs.declared.receiving.SlotReceiver.{SlotReceiver}
@@ -45,20 +44,21 @@ pub sent : (place : ℕ) (sender : Crc4Sender) (reports : Option (List ℕ)) (oc
 sent place sender reports octets returned s =
     (reports, (s.0, s.1, is_sent sender reports _ _ s.2))
 
--- What a receiver of slots has made of octets.
-abbrev pub Whole : Law → ℕ → SlotReceiver → List ℕ → List ℕ → Type 0
-Whole law place receiver octets returned = HasMadeWhole receiver law place octets returned
+-- What a filter has returned from its place on, if it is used, in words that follow from its own.
+pub returned-from : {F : Type 0} (place : F → ℕ) (Has : F → List ℕ → List ℕ → Type 0)
+    (Returns : ℕ → List ℕ → List ℕ → Type 0) (filter : Option F) (octets returned : List ℕ)
+    → ((f : F) → Has f octets returned → Returns (place f) octets returned)
+    → MatchOption filter (returned ≡ octets) (λ f. Has f octets returned)
+    → MatchOption (option_map place filter) (returned ≡ octets) (λ p. Returns p octets returned)
+returned-from place Has Returns None octets returned said r = r
+returned-from place Has Returns (Some f) octets returned said r = said f r
 
 -- What a receiver of slots has made, and gives but for what is held.
-pub made-if : (law : Law) (place : ℕ) (is_on : Bool) (slots : Option SlotReceiver)
-    (received given held : List ℕ) → is_some slots ≡ is_on
+pub made-if : (law : Law) (place : ℕ) (slots : Option SlotReceiver) (received given held : List ℕ)
     → MatchOption slots ((given ≡ received) × (held ≡ [])) (λ s. HasMadeWhole s law place received (given ++ held))
-    → ReturnsIf is_on (λ octets whole. whole ≡ whole_trunk law place octets) received (given ++ held)
-made-if law place is_on None received given held is made =
-    returned-if (Whole law place) _ None is_on _ _ is (λ s m. m.made_are)
-    (rw (made.1, append-nil given) made.0)
-made-if law place is_on (Some s) received given held is made =
-    returned-if (Whole law place) _ (Some s) is_on _ _ is (λ s m. m.made_are) made
+    → ReturnsIf (is_some slots) (λ octets whole. whole ≡ whole_trunk law place octets) received (given ++ held)
+made-if law place None received given held made = rw (made.1, append-nil given) made.0
+made-if law place (Some s) received given held made = made.made_are
 
 -- What follows of three things, each of which is there.
 pub of-three : {A B C D : Type 0} → ∥ A ∥₁ → ∥ B ∥₁ → ∥ C ∥₁ → (A → B → C → D) → ∥ D ∥₁

@@ -1,6 +1,6 @@
 -- The filters of a trunk, in their order (module `filters`).
 use Rattle.std.specs.Prelude.{◌≡◌, ◌++◌, ◌≤◌, ◌&&◌, ℕ, Bool, List, [], Option, Result, Ok, Err}
-use Rattle.std.specs.Prelude.{IfSome, IfOk, length}
+use Rattle.std.specs.Prelude.{IfSome, IfOk, MatchOption, length}
 use Rattle.e1_g711.specs.declared.Law.{Law}
 use Rattle.g704_bits.specs.Standing.{StandsAfter}
 use Rattle.gw_filter.specs.Align.{align_reply}
@@ -53,18 +53,20 @@ both_ended (Ok all) (Ok rest) = Ok (all && rest)
 both_ended (Ok all) (Err fault) = Err fault
 both_ended (Err fault) rest = Err fault
 
--- What was left to be sent went with CRC-4 multiframes, if the trunk has them, and by slots 1 to 31 of whole
--- frames, if its device has no others. The device took all of that but for what it had not taken in the end:
--- nothing, if it did not fail then and no wait for it, of this number before, has ended without room.
-pub record GoesFramed (slots crc4 : Bool) (place : ℕ) (left : List ℕ) (slow_waits : ℕ)
-    (output : Result Bool DeviceFault) : Type 0 where
+-- What was left to be sent went with CRC-4 multiframes from a place on, if the trunk has them, and by slots
+-- 1 to 31 of whole frames from a place on, if its device has no others. The device took all of that but for
+-- what it had not taken in the end: nothing, if it did not fail then and no wait for it, of this number
+-- before, has ended without room.
+pub record GoesFramed (left : List ℕ) (slow_waits : ℕ) (output : Result Bool DeviceFault) : Type 0 where
   pub framed : List ℕ
-  pub frames : ReturnsIf crc4 (SendsFrom place) left framed
+  pub crc4_from : Option ℕ
+  pub frames : MatchOption crc4_from (framed ≡ left) (λ place. SendsFrom place left framed)
   pub passed : List ℕ
   pub behind : List ℕ
   pub framed_are : framed ≡ passed ++ behind
   pub device : List ℕ
-  pub is_cut : ReturnsIf slots (λ given cut. cut ≡ device_frames place given) passed device
+  pub slots_from : Option ℕ
+  pub is_cut : MatchOption slots_from (device ≡ passed) (λ place. device ≡ device_frames place passed)
   pub went : List ℕ
   pub untaken : List ℕ
   pub device_is : device ≡ went ++ untaken
@@ -73,9 +75,8 @@ pub record GoesFramed (slots crc4 : Bool) (place : ℕ) (left : List ℕ) (slow_
   pub whole : IfOk output (λ all. last_waits ≡ 0 → (behind ≡ []) × (untaken ≡ []))
 
 -- What was sent went in time, except for whole multiframes if the device was slow, and through its filters.
-pub record Goes (slots crc4 : Bool) (place : ℕ) (sent : List ℕ) (discarded : ℕ)
-    (output : Result Bool DeviceFault) : Type 0 where
+pub record Goes (sent : List ℕ) (discarded : ℕ) (output : Result Bool DeviceFault) : Type 0 where
   pub left : List ℕ
   pub slow_waits : ℕ
   pub in_time : GoesInTime sent left discarded slow_waits
-  pub framed : GoesFramed slots crc4 place left slow_waits output
+  pub framed : GoesFramed left slow_waits output

@@ -1,28 +1,26 @@
 //! How a trunk that is open is served, through its filters (`serve`).
 
-ghost use Rattle.std.specs.Prelude.{◌≡◌, ◌%◌, ◌<◌, [], is_some};
+ghost use Rattle.std.specs.Prelude.{◌≡◌, []};
 ghost use Rattle.run_trunk.specs.Filters.{AreFresh};
 ghost use Rattle.run_trunk.specs.Opening.{IsFreshTrunk};
 
 use crate::filters::{
-    TrunkFilters, checker_from, filtered_input, filtered_output, finish_input, finish_output,
-    parted, receiver_from,
+    TrunkFilters, checker_from, filtered_input, finish_input, finish_output, framed_output, parted,
+    slot_input,
 };
 use crate::opening::{Incoming, OpenTrunk};
 use crate::serving::serve_trunk;
 use e1_g711::Law;
 use gw_filter::Checked;
-use gw_filtered::{Phase, Switch};
 use gw_machine::{tell_check, tell_discarded};
 use gw_session::{Ports, RunFault, Tape, Totals, Watch};
-use gw_slots::DeviceSlots;
 use gw_switch::Gateway;
 use gw_trunk::{
-    DeviceFault, NoClients, TrunkInput, TrunkOutput, TrunkRecordSink, TrunkRecordSource,
+    DeviceFault, MultiframeDropper, NoClients, ToDevice, TrunkInput, TrunkOutput, TrunkRecordSink,
+    TrunkRecordSource,
 };
 use std::alloc::Global;
-use std::marker::Brand;
-use std::rt::Stderr;
+use std::rt::{Stderr, Stdout};
 
 /// How a trunk ended.
 #[derive(Drop)]
@@ -58,49 +56,31 @@ fn ended_behind(
 
 // The ends of a trunk.
 #[derive(Drop)]
-struct TrunkEnds<I: TrunkInput, O: TrunkOutput, A: TrunkOutput> {
+struct TrunkEnds<I: TrunkInput, A: TrunkOutput> {
     incoming: I,
-    outgoing: O,
+    outgoing: ToDevice<Stdout>,
     // Where answers to clients go.
     answers: A,
     filters: TrunkFilters,
     errors: Stderr,
 }
 
-// Serves a trunk between its ends by a gateway, from its place in a multiframe on.
+// Serves a trunk between its ends by a gateway, through the filters that are there.
 #[inline(never)]
-fn serve_between<
-    I: TrunkInput + Drop,
-    O: TrunkOutput + Drop,
-    A: TrunkOutput + Drop,
-    P: Ports,
-    T: Tape,
-    W: Watch,
-    S: DeviceSlots,
-    K: Switch,
-    L: Switch,
-    V: Switch,
-    F: Phase,
->(
+fn serve_ends<I: TrunkInput + Drop, A: TrunkOutput + Drop, P: Ports, T: Tape, W: Watch>(
     alloc: Global,
     law: Law,
     gateway: &mut Gateway,
-    ends: TrunkEnds<I, O, A>,
+    ends: TrunkEnds<I, A>,
     ports: &mut P,
     tape: &mut T,
     watch: &mut W,
 ) -> TrunkEnd
     requires came { I.came ends.incoming ≡ [] }
     requires asked { I.asked ends.incoming ≡ [] }
-    requires went { O.went ends.outgoing ≡ [] }
+    requires went { ends.outgoing.log.octets ≡ [] }
     requires told { A.went ends.answers ≡ [] }
     requires fresh { AreFresh ends.filters }
-    requires slots { ends.filters.slots ≡ S.is_on }
-    requires align { is_some ends.filters.aligner ≡ K.is_on }
-    requires crc4 { is_some ends.filters.crc4 ≡ L.is_on }
-    requires live { ends.filters.live ≡ V.is_on }
-    requires place { (gateway.old.trunk.position % 512 ≡ F.place) × (F.place ≡ S.place) }
-    requires law { law ≡ S.law }
 {
     let TrunkEnds {
         incoming,
@@ -115,18 +95,12 @@ fn serve_between<
         aligner,
         crc4,
     } = filters;
-    let place = gateway.place();
     let (outward, reports) = parted(crc4);
-    let incoming = filtered_input::<I, S, K, L, V>(
-        errors,
-        incoming,
-        receiver_from(slots, law, place),
-        aligner,
-        checker_from(errors, live, outward),
-    );
-    let outgoing = filtered_output::<O, S, L, F>(errors, outgoing, slots, reports, place);
+    let whole = slot_input(errors, incoming, slots, law, gateway);
+    let incoming = filtered_input(whole, aligner, checker_from(errors, live, outward));
+    let framed = framed_output(outgoing, slots, reports, gateway);
     let mut source = TrunkRecordSource::new(incoming);
-    let mut sink = TrunkRecordSink::new(outgoing, answers);
+    let mut sink = TrunkRecordSink::new(MultiframeDropper::new(framed, errors), answers);
     let ended = serve_trunk(alloc, gateway, ports, &mut source, &mut sink, tape, watch);
     let (discarded, output) = finish_output(sink.into_outgoing());
     TrunkEnd {
@@ -134,34 +108,6 @@ fn serve_between<
         checked: finish_input(source.into_incoming()),
         discarded,
     }
-}
-
-// Serves a trunk between its ends, through the filters that are there.
-fn serve_ends<
-    I: TrunkInput + Drop,
-    O: TrunkOutput + Drop,
-    A: TrunkOutput + Drop,
-    P: Ports,
-    T: Tape,
-    W: Watch,
->(
-    alloc: Global,
-    law: Law,
-    gateway: &mut Gateway,
-    ends: TrunkEnds<I, O, A>,
-    ports: &mut P,
-    tape: &mut T,
-    watch: &mut W,
-) -> TrunkEnd
-    requires came { I.came ends.incoming ≡ [] }
-    requires asked { I.asked ends.incoming ≡ [] }
-    requires went { O.went ends.outgoing ≡ [] }
-    requires told { A.went ends.answers ≡ [] }
-    requires fresh { AreFresh ends.filters }
-{
-    serve_between::<I, O, A, P, T, W, Brand, Brand, Brand, Brand, Brand>(
-        alloc, law, gateway, ends, ports, tape, watch,
-    )
 }
 
 /// Serves a trunk by a gateway of this law, until no octet comes any more. Datagrams come and go through the

@@ -1,9 +1,8 @@
 //! What passes the filters that the command line asks for, at both ends of a trunk (`TrunkFilters`).
 
-ghost use Rattle.std.specs.Prelude.{◌≡◌, ◌<◌, [], IfOk, IfSome, is_some, option_map};
+ghost use Rattle.std.specs.Prelude.{◌≡◌, ◌%◌, [], IfOk, IfSome, is_some, option_map};
 ghost use Rattle.g704_bits.specs.Standing.{StandsAfter};
 ghost use Rattle.gw_filter.specs.Check.{HasReported};
-ghost use Rattle.gw_slots.specs.Receiving.{HasMadeWhole};
 ghost use Rattle.run_trunk.specs.Filters.{AreFresh, AreUnused, Comes, Goes, GoesFramed, both_ended};
 
 use e1_g711::Law;
@@ -13,22 +12,22 @@ use gw_filter::{
     BufferFilter, Checked, CountsTeller, ReceiverCounts, ReportingChecker, ReportingSender,
     ToReports,
 };
-use gw_filtered::{FilteredInput, FilteredOutput, Phase, PhasedFilter, Switch, SwitchedFilter};
+use gw_filtered::{FilteredInput, FilteredOutput, PhasedFilter, SwitchedFilter};
 use gw_machine::{ProgramFault, tell_live, tell_slots};
 use gw_records::NO_TOTALS;
 use gw_session::FromRead;
-use gw_slots::{DeviceSlots, SlotDropper, SlotInput, SlotReceiver, SlotTeller};
+use gw_slots::{SlotDropper, SlotInput, SlotTeller};
+use gw_switch::Gateway;
 use gw_trunk::{DeviceFault, MultiframeDropper, TrunkInput, TrunkOutput, open_pair};
 use mio::net::UnixStream;
-use std::marker::PhantomData;
 use std::net::Net;
 use std::rt::Stderr;
 
 /// Checks the CRC-4 multiframes of what comes, and reports errored ones to the sender.
-pub(crate) type Checker<V> = ReportingChecker<ToReports<UnixStream>, PrintedCounts<V>>;
+pub(crate) type Checker = ReportingChecker<ToReports<UnixStream>, PrintedCounts>;
 
 /// Puts CRC-4 multiframes into what goes, from a place in a multiframe on.
-pub(crate) type Sender<P> = PhasedFilter<ReportingSender<FromRead<UnixStream>>, P>;
+pub(crate) type Sender = PhasedFilter<ReportingSender<FromRead<UnixStream>>>;
 
 /// Prints on standard error when slot 16 is found and lost.
 #[derive(Drop)]
@@ -44,14 +43,12 @@ impl SlotTeller for PrintedSlots {
 
 /// Prints the counts of a checker on standard error, if that is asked for.
 #[derive(Drop)]
-pub(crate) struct PrintedCounts<V: Switch> {
+pub(crate) struct PrintedCounts {
     errors: Stderr,
     is_live: bool,
-    of: PhantomData<V>,
-    ghost is: { is_live ≡ V.is_on },
 }
 
-impl<V: Switch> CountsTeller for PrintedCounts<V> {
+impl CountsTeller for PrintedCounts {
     ghost use Rattle.std.specs.Prelude.{⊤};
 
     ghost has_told = { λ _ _. ⊤ };
@@ -64,19 +61,16 @@ impl<V: Switch> CountsTeller for PrintedCounts<V> {
 }
 
 /// What comes of a trunk, with all slots, aligned and then checked.
-pub(crate) type Incoming<I, S, K, L, V> = FilteredInput<
-    FilteredInput<SlotInput<I, PrintedSlots, S>, SwitchedFilter<BitAligner, K>>,
-    SwitchedFilter<Checker<V>, L>,
+pub(crate) type Incoming<I> = FilteredInput<
+    FilteredInput<SlotInput<I, PrintedSlots>, SwitchedFilter<BitAligner>>,
+    SwitchedFilter<Checker>,
 >;
 
 /// Where what is sent goes, with CRC-4 and then without slot 0.
-pub(crate) type Framed<O, S, L, P> = FilteredOutput<
-    FilteredOutput<O, SlotDropper<S>>,
-    SwitchedFilter<Sender<P>, L>,
->;
+pub(crate) type Framed<O> = FilteredOutput<FilteredOutput<O, SlotDropper>, SwitchedFilter<Sender>>;
 
 /// Where what is sent goes, by multiframes first.
-pub(crate) type Outgoing<O, S, L, P> = MultiframeDropper<Framed<O, S, L, P>, Stderr>;
+pub(crate) type Outgoing<O> = MultiframeDropper<Framed<O>, Stderr>;
 
 /// Where the reports of a checker go, and what they come from for the sender.
 #[derive(Drop)]
@@ -164,98 +158,102 @@ pub(crate) fn parted(
 }
 
 /// The checker of what comes, if its reports go anywhere.
-pub(crate) fn checker_from<V: Switch>(
+pub(crate) fn checker_from(
     errors: Stderr,
     is_live: bool,
     outward: Option<ToReports<UnixStream>>,
-) -> Option<Checker<V>>
-    requires live { is_live ≡ V.is_on }
-    requires unsent { IfSome outward (λ o. o.log.octets ≡ []) }
+) -> Option<Checker>
+    requires { IfSome outward (λ o. o.log.octets ≡ []) }
     ensures is { is_some result ≡ is_some outward }
     ensures begins { IfSome result (λ c. HasReported c.checker c.reported c.reports.log.octets [] []) }
 {
     match outward {
         Some(outward) => {
-            let of = PhantomData;
-            let teller = PrintedCounts {
-                errors,
-                is_live,
-                of,
-            };
+            let teller = PrintedCounts { errors, is_live };
             Some(ReportingChecker::new(outward, teller))
         }
         None => None,
     }
 }
 
-/// The receiver of a device that has slots 1 to 31 alone, if it has.
-pub(crate) fn receiver_from(is_on: bool, law: Law, place: u16) -> Option<SlotReceiver>
-    requires { place < 512 }
-    ensures is { is_some result ≡ is_on }
-    ensures begins { IfSome result (λ s. HasMadeWhole s law place [] []) }
-{
-    if is_on {
-        return Some(SlotReceiver::new(law, place));
-    }
-    None
-}
-
-/// What comes of a trunk, as these filters return it.
-pub(crate) fn filtered_input<I: TrunkInput, S: DeviceSlots, K: Switch, L: Switch, V: Switch>(
+/// What comes of a trunk of this law with all slots, from the gateway's place in a multiframe on.
+pub(crate) fn slot_input<I: TrunkInput>(
     errors: Stderr,
     incoming: I,
-    slots: Option<SlotReceiver>,
-    aligner: Option<BitAligner>,
-    checker: Option<Checker<V>>,
-) -> Incoming<I, S, K, L, V>
-    requires came { I.came incoming ≡ [] }
-    requires slots { IfSome slots (λ s. HasMadeWhole s S.law S.place [] []) }
-    requires aligner { IfSome aligner (λ a. StandsAfter a []) }
-    requires checker { IfSome checker (λ c. HasReported c.checker c.reported c.reports.log.octets [] []) }
-    requires picked { (is_some slots ≡ S.is_on) × (is_some aligner ≡ K.is_on) × (is_some checker ≡ L.is_on) }
-    ensures came { result.log.octets ≡ [] }
-    ensures asked { I.asked result.incoming.incoming.incoming ≡ I.asked incoming }
+    slots: bool,
+    law: Law,
+    gateway: &Gateway,
+) -> SlotInput<I, PrintedSlots>
+    requires { I.came incoming ≡ [] }
+    ensures incoming { result.incoming ≡ incoming }
+    ensures slots { is_some result.slots ≡ slots }
+    ensures law { result.law.value ≡ law }
+    ensures place { result.place.value ≡ gateway.now.trunk.position % 512 }
+    ensures log { result.log.octets ≡ [] }
 {
-    let teller = PrintedSlots { errors };
-    let whole = SlotInput::<I, PrintedSlots, S>::new(incoming, slots, teller);
-    let aligned = FilteredInput::new(whole, SwitchedFilter::<BitAligner, K>::new(aligner));
-    FilteredInput::new(aligned, SwitchedFilter::<Checker<V>, L>::new(checker))
+    SlotInput::new(
+        incoming,
+        slots,
+        law,
+        gateway.place(),
+        PrintedSlots { errors },
+    )
 }
 
-// The sender of what goes, from a place in a multiframe on.
-fn sender_from<P: Phase>(reports: Option<FromRead<UnixStream>>, place: u16) -> Option<Sender<P>>
-    requires below { place < 512 }
-    requires place { place ≡ P.place }
-    requires unread { IfSome reports (λ r. r.log.octets ≡ []) }
+/// What comes of a trunk with all slots, as these filters return it.
+pub(crate) fn filtered_input<I: TrunkInput>(
+    incoming: SlotInput<I, PrintedSlots>,
+    aligner: Option<BitAligner>,
+    checker: Option<Checker>,
+) -> Incoming<I>
+    requires came { incoming.log.octets ≡ [] }
+    requires aligner { IfSome aligner (λ a. StandsAfter a []) }
+    requires checker { IfSome checker (λ c. HasReported c.checker c.reported c.reports.log.octets [] []) }
+    ensures came { result.log.octets ≡ [] }
+    ensures incoming { result.incoming.incoming ≡ incoming }
+    ensures aligned { result.incoming.filter.filter ≡ aligner }
+    ensures checked { result.filter.filter ≡ checker }
+{
+    let aligned = FilteredInput::new(incoming, SwitchedFilter::new(aligner));
+    FilteredInput::new(aligned, SwitchedFilter::new(checker))
+}
+
+// The sender of what goes, from the gateway's place in a multiframe on.
+fn sender_from(reports: Option<FromRead<UnixStream>>, gateway: &Gateway) -> Option<Sender>
+    requires { IfSome reports (λ r. r.log.octets ≡ []) }
     ensures is { is_some result ≡ is_some reports }
-    ensures begins { IfSome result (λ s. ⟦<Sender<P> as BufferFilter>⟧.has_returned s [] []) }
+    ensures place { IfSome result (λ s. s.place.value ≡ gateway.now.trunk.position % 512) }
+    ensures begins { IfSome result (λ s. ⟦<Sender as BufferFilter>⟧.has_returned s [] []) }
 {
     match reports {
-        Some(reports) => Some(PhasedFilter::new(ReportingSender::new(reports), usize::from(place))),
+        Some(reports) => {
+            let sender = ReportingSender::new(reports);
+            Some(PhasedFilter::new(sender, usize::from(gateway.place())))
+        }
         None => None,
     }
 }
 
-/// Where what is sent goes, by multiframes, with CRC-4 from a place on if there are reports, and without slot
-/// 0 if the device has none.
-pub(crate) fn filtered_output<O: TrunkOutput, S: DeviceSlots, L: Switch, P: Phase>(
-    errors: Stderr,
+/// Where what is sent goes, with CRC-4 from the gateway's place on if there are reports, and without slot 0
+/// if the device has none.
+pub(crate) fn framed_output<O: TrunkOutput>(
     outgoing: O,
     slots: bool,
     reports: Option<FromRead<UnixStream>>,
-    place: u16,
-) -> Outgoing<O, S, L, P>
+    gateway: &Gateway,
+) -> Framed<O>
     requires went { O.went outgoing ≡ [] }
-    requires below { place < 512 }
-    requires place { (place ≡ P.place) × (place ≡ S.place) }
     requires unread { IfSome reports (λ r. r.log.octets ≡ []) }
-    requires picked { (slots ≡ S.is_on) × (is_some reports ≡ L.is_on) }
-    ensures { result.log.octets ≡ [] }
+    ensures went { result.log.octets ≡ [] }
+    ensures crc4 { is_some result.filter.filter ≡ is_some reports }
+    ensures place { IfSome result.filter.filter (λ s.
+        s.place.value ≡ gateway.now.trunk.position % 512) }
+    ensures slots { is_some result.outgoing.filter.frame ≡ slots }
+    ensures slots_place { result.outgoing.filter.place.value ≡ gateway.now.trunk.position % 512 }
 {
-    let sender = sender_from(reports, place);
-    let frames = FilteredOutput::new(outgoing, SlotDropper::<S>::new(slots, place));
-    let framed = FilteredOutput::new(frames, SwitchedFilter::<Sender<P>, L>::new(sender));
-    MultiframeDropper::new(framed, errors)
+    let sender = sender_from(reports, gateway);
+    let frames = FilteredOutput::new(outgoing, SlotDropper::new(slots, gateway.place()));
+    FilteredOutput::new(frames, SwitchedFilter::new(sender))
 }
 
 // How two writers ended, one behind the other: whether both took all.
@@ -274,12 +272,8 @@ fn both_ended(
 
 // Gives the device what is still held for it, first with slot 0 and then without, and returns whether it took
 // all.
-fn finish_framed<O: TrunkOutput + Drop, S: DeviceSlots, L: Switch, P: Phase>(
-    framed: Framed<O, S, L, P>,
-) -> Result<bool, DeviceFault>
-    requires { S.place ≡ P.place }
-    ensures { ∥ GoesFramed S.is_on L.is_on P.place framed.log.octets (O.slow_waits framed.outgoing.outgoing)
-        result ∥₁ }
+fn finish_framed<O: TrunkOutput + Drop>(framed: Framed<O>) -> Result<bool, DeviceFault>
+    ensures { ∥ GoesFramed framed.log.octets (O.slow_waits framed.outgoing.outgoing) result ∥₁ }
 {
     let mut framed = framed;
     let all = framed.finish();
@@ -290,11 +284,10 @@ fn finish_framed<O: TrunkOutput + Drop, S: DeviceSlots, L: Switch, P: Phase>(
 
 /// Gives the device what is still held for it, and returns how many multiframes were discarded, and whether
 /// the device took all in the end.
-pub(crate) fn finish_output<O: TrunkOutput + Drop, S: DeviceSlots, L: Switch, P: Phase>(
-    outgoing: Outgoing<O, S, L, P>,
+pub(crate) fn finish_output<O: TrunkOutput + Drop>(
+    outgoing: Outgoing<O>,
 ) -> (u64, Result<bool, DeviceFault>)
-    requires { S.place ≡ P.place }
-    ensures { ∥ Goes S.is_on L.is_on P.place outgoing.log.octets result.0 result.1 ∥₁ }
+    ensures { ∥ Goes outgoing.log.octets result.0 result.1 ∥₁ }
 {
     let mut dropper = outgoing;
     dropper.finish();
@@ -303,19 +296,17 @@ pub(crate) fn finish_output<O: TrunkOutput + Drop, S: DeviceSlots, L: Switch, P:
 }
 
 // A law: what came of a trunk is what its filters, in their order, made of what the device gave.
-fn comes<I: TrunkInput, S: DeviceSlots, K: Switch, L: Switch, V: Switch>(
-    incoming: &Incoming<I, S, K, L, V>,
-)
-    ensures { ∥ Comes S.is_on K.is_on L.is_on S.law S.place
+fn comes<I: TrunkInput>(incoming: &Incoming<I>)
+    ensures { ∥ Comes (is_some incoming.now.incoming.incoming.slots)
+        (is_some incoming.now.incoming.filter.filter) (is_some incoming.now.filter.filter)
+        incoming.now.incoming.incoming.law.value incoming.now.incoming.incoming.place.value
         (I.came incoming.now.incoming.incoming.incoming) incoming.now.log.octets ∥₁ }
 {
     let _incoming = incoming;
 }
 
 /// What was counted of what came, if it was checked. It is printed as a line if that is asked for.
-pub(crate) fn finish_input<I: TrunkInput + Drop, S: DeviceSlots, K: Switch, L: Switch, V: Switch>(
-    incoming: Incoming<I, S, K, L, V>,
-) -> Option<Checked> {
+pub(crate) fn finish_input<I: TrunkInput + Drop>(incoming: Incoming<I>) -> Option<Checked> {
     comes(&incoming);
     let mut checker = incoming.into_filter().into_filter()?;
     checker.tell_now();

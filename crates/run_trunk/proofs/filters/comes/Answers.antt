@@ -14,14 +14,13 @@ returns g c =
     let slots = aligned.incoming in
     of-three incoming.filtered aligned.filtered slots.came (λ checks aligns made. record {
       made = slots.log.octets ++ slots.held.items;
-      is_made = made-if g.S.DeviceSlots.law g.S.DeviceSlots.place g.S.DeviceSlots.is_on slots.slots _ _ _ slots.is made;
+      is_made = made-if slots.law.value slots.place.value slots.slots _ _ _ made;
       whole = slots.log.octets;
       rest = slots.held.items;
       made_are = refl;
       few = slots.few;
       aligned = aligned.log.octets;
-      aligns = returned-if Aligned (RepliesTo align_reply) aligned.filter.filter g.K.Switch.is_on _ _
-          aligned.filter.is (λ f s. s.1) aligns;
+      aligns = returned-if Aligned (RepliesTo align_reply) aligned.filter.filter _ _ _ refl (λ f s. s.1) aligns;
       checks = returned-if (λ f. HasReported f.checker f.reported f.reports.log.octets) Checks
-          incoming.filter.filter g.L.Switch.is_on _ _ incoming.filter.is (λ f s. checked _ _ _ _ _ s) checks;
+          incoming.filter.filter _ _ _ refl (λ f s. checked _ _ _ _ _ s) checks;
     })

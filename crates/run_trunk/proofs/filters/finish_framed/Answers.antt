@@ -2,10 +2,9 @@ use Rattle.std.proofs.Common.{◌≡◌, ◌++◌, Some, arith, refl}
 use Rattle.std.proofs.Math.Logic.{∥∥₁_map₂}
 use Rattle.gw_filter.specs.Crc4.{HasSent}
 use Rattle.gw_filtered.specs.Filters.{ReturnsBehind}
-use Rattle.gw_filtered.proofs.Returned.{returned-if}
 use Rattle.gw_slots.specs.Dropping.{HasFramed}
 use Rattle.gw_slots.specs.Frames.{device_frames}
-use Rattle.run_trunk.proofs.Filtered.{sent, taken-whole}
+use Rattle.run_trunk.proofs.Filtered.{returned-from, sent, taken-whole}
 use Rattle.run_trunk.specs.Filters.{SendsFrom}
 use Rattle.run_trunk.proofs.filters.finish_framed.Goals as goal
 
@@ -16,18 +15,19 @@ returns g c =
     let more = rw c.into_outgoing-frames.ensures at c.finish-rest.ensures.waits in
     rw c.both_ended.ensures (∥∥₁_map₂ framed.returned frames.returned (λ outer inner. record {
       framed = framed.outgoing.log.octets ++ framed.held.items;
-      frames = rw c.finish-all.ensures.sent at (returned-if
-          (λ f. ReturnsBehind g.P.Phase.place (HasSent f.filter.sender (Some f.filter.reports.log.octets)))
-          (SendsFrom g.P.Phase.place) framed.filter.filter g.L.Switch.is_on _ _
-          framed.filter.is (λ f s. sent _ _ _ _ _ s) outer);
+      crc4_from = _;
+      frames = rw c.finish-all.ensures.sent at (returned-from (λ f. f.place.value)
+          (λ f. ReturnsBehind f.place.value (HasSent f.filter.sender (Some f.filter.reports.log.octets)))
+          SendsFrom framed.filter.filter _ _ (λ f s. sent _ _ _ _ _ s) outer);
       passed = framed.outgoing.log.octets;
       behind = framed.held.items;
       framed_are = refl;
       device = g.O.TrunkOutput.went frames.outgoing ++ frames.held.items;
-      is_cut = rw (c.finish-rest.ensures.sent, c.into_outgoing-frames.ensures, c.requires) at (returned-if
-          (λ f. HasFramed f g.S.DeviceSlots.place)
-          (λ taken returned. returned ≡ device_frames g.S.DeviceSlots.place taken) frames.filter.frame
-          g.S.DeviceSlots.is_on _ _ frames.filter.is (λ f s. s.returned_are) inner);
+      slots_from = _;
+      is_cut = rw (c.finish-rest.ensures.sent, c.into_outgoing-frames.ensures) at (returned-from
+          (λ f. frames.filter.place.value) (λ f. HasFramed f frames.filter.place.value)
+          (λ place taken returned. returned ≡ device_frames place taken) frames.filter.frame _ _
+          (λ f s. s.returned_are) inner);
       went = g.O.TrunkOutput.went frames.outgoing;
       untaken = frames.held.items;
       device_is = refl;

@@ -25,6 +25,6 @@ returns-then-is_off-clause-given g c = λ more.
 
 pub returns-clause-given : goal.returns-clause-given
 returns-clause-given g c = λ more.
-    offered-if g.F.PieceFilter.may_return_none (g.O.TrunkOutput.was_given c.give_now-2.new.outgoing)
+    offered-if (g.F.PieceFilter.may_return_none c.pass.new.self) (g.O.TrunkOutput.was_given c.give_now-2.new.outgoing)
     c.pass.new.returned.items c.give_now-2.new.held.items (λ each. c.pass.ensures.some each (search rules))
     c.give_now-2.ensures.none c.give_now-2.ensures.given

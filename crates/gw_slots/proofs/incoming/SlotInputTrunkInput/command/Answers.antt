@@ -3,7 +3,6 @@ use Rattle.gw_slots.proofs.incoming.SlotInputTrunkInput.command.Goals as goal
 
 pub invariant_of-self : goal.invariant_of-self
 invariant_of-self g c = record {
-  is = c.args.self.now.is;
   came = ∥∥₁_map c.args.self.now.came (λ t. rw c.command.ensures.came t);
   said = ∥∥₁_map c.args.self.now.said (λ t. rw c.command.ensures.came t);
   off = c.args.self.now.off;

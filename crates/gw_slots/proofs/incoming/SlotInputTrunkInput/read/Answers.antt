@@ -5,7 +5,6 @@ use Rattle.gw_slots.proofs.incoming.SlotInputTrunkInput.read.Goals as goal
 
 pub invariant_of-self : goal.invariant_of-self
 invariant_of-self g c = record {
-  is = c.args.self.now.is;
   came = ∥∥₁_map c.args.self.now.came
       (came-passed _ _ _ _ _ _ _ _ _ c.in_default.is c.read-read.ensures.came c.log_read.ensures);
   said = ∥∥₁_map c.args.self.now.said (λ t. said-off _ _ _ _ c.in_default.is);
@@ -17,7 +16,7 @@ pub invariant_of-self-in-Ok-Octets : goal.invariant_of-self-in-Ok-Octets
 invariant_of-self-in-Ok-Octets g c =
     let s = c.args.self.now in
     let none = none-held s.held.items c.is_empty.result c.is_empty.ensures c.if-self.false in
-    let made = received s.slots c.in-Some.slots c.make.new.slots g.S.DeviceSlots.law g.S.DeviceSlots.place
+    let made = received s.slots c.in-Some.slots c.make.new.slots s.law.value s.place.value
     (g.I.TrunkInput.came s.incoming) (g.I.TrunkInput.came c.read-read-2.new.self) _ s.log.octets
     c.give-n-in-Ok-Octets.new.log.octets s.held.items c.make.new.held.items c.give-n-in-Ok-Octets.new.held.items
     c.in-Some.is none c.make.ensures.made
@@ -25,7 +24,6 @@ invariant_of-self-in-Ok-Octets g c =
     (sym (taken-front c.read-read-2.result c.read-read-2.new.room _ c.read-read-2.ensures.bound)))
     c.give-n-in-Ok-Octets.ensures.all s.came in
     record {
-      is = search rules;
       came = made;
       said = ∥∥₁_map made (λ h. c.tell.ensures.late _ _ _ _ h);
       off = λ e. absurd (cc e);
@@ -39,7 +37,7 @@ pub invariant_of-self-in-NoneNow-1 : goal.invariant_of-self-in-NoneNow-1
 invariant_of-self-in-NoneNow-1 g c =
     let s = c.args.self.now in
     let none = none-held s.held.items c.is_empty.result c.is_empty.ensures c.if-self.false in
-    let made = received s.slots c.in-Some.slots c.make.new.slots g.S.DeviceSlots.law g.S.DeviceSlots.place
+    let made = received s.slots c.in-Some.slots c.make.new.slots s.law.value s.place.value
     (g.I.TrunkInput.came s.incoming) (g.I.TrunkInput.came c.read-read-2.new.self) _ s.log.octets
     s.log.octets s.held.items c.make.new.held.items c.make.new.held.items
     c.in-Some.is none c.make.ensures.made
@@ -47,7 +45,6 @@ invariant_of-self-in-NoneNow-1 g c =
     (sym (taken-front c.read-read-2.result c.read-read-2.new.room _ c.read-read-2.ensures.bound)))
     refl s.came in
     record {
-      is = search rules;
       came = made;
       said = ∥∥₁_map made (λ h. c.tell.ensures.late _ _ _ _ h);
       off = λ e. absurd (cc e);
@@ -58,7 +55,7 @@ pub invariant_of-self-in-Err-1 : goal.invariant_of-self-in-Err-1
 invariant_of-self-in-Err-1 g c =
     let s = c.args.self.now in
     let none = none-held s.held.items c.is_empty.result c.is_empty.ensures c.if-self.false in
-    let made = received s.slots c.in-Some.slots c.make.new.slots g.S.DeviceSlots.law g.S.DeviceSlots.place
+    let made = received s.slots c.in-Some.slots c.make.new.slots s.law.value s.place.value
     (g.I.TrunkInput.came s.incoming) (g.I.TrunkInput.came c.read-read-2.new.self) _ s.log.octets
     s.log.octets s.held.items c.make.new.held.items c.make.new.held.items
     c.in-Some.is none c.make.ensures.made
@@ -66,7 +63,6 @@ invariant_of-self-in-Err-1 g c =
     (sym (taken-front c.read-read-2.result c.read-read-2.new.room _ c.read-read-2.ensures.bound)))
     refl s.came in
     record {
-      is = search rules;
       came = made;
       said = ∥∥₁_map made (λ h. c.tell.ensures.late _ _ _ _ h);
       off = λ e. absurd (cc e);
