@@ -12,20 +12,16 @@ use arrayvec::ArrayVec;
 use e1_g711::Law;
 use gw_records::{AtStart, Log, RecordHead};
 use gw_trunk::{DeviceFault, DeviceRead, TrunkInput, drop_first};
+use std::rt::Stderr;
 
 // The octets of 64 frames: read at once at most.
 const MOST_READ: usize = 1984;
 
-/// A receiver of reports on slot 16: when it is found, and when it is lost.
-pub trait SlotTeller {
-    /// Receives by how many octets others are delayed from now on; none if slot 16 is lost.
-    fn tell(&mut self, late: Option<u8>);
-}
-
 /// A trunk whose device has slots 1 to 31 alone, if its receiver is used: what comes has slot 0 again, and
-/// each octet in its slot. Clients, waits and the end are the trunk's own.
+/// each octet in its slot. It prints when slot 16 is found and lost. Clients, waits and the end are the
+/// trunk's own.
 #[derive(Drop)]
-pub struct SlotInput<I: TrunkInput, T: SlotTeller> {
+pub struct SlotInput<I: TrunkInput> {
     incoming: I,
     slots: Option<SlotReceiver>,
     law: AtStart<Law>,
@@ -35,8 +31,8 @@ pub struct SlotInput<I: TrunkInput, T: SlotTeller> {
     held: ArrayVec<u8, 2112>,
     // Whether the last read gave only such octets.
     only_held: bool,
-    teller: T,
-    // What was reported last.
+    errors: Stderr,
+    // What was printed last.
     told: Option<u8>,
     log: Log,
     ghost came: { ∥ MatchOption slots ((log.octets ≡ I.came incoming) × (held.items ≡ []))
@@ -46,10 +42,10 @@ pub struct SlotInput<I: TrunkInput, T: SlotTeller> {
     ghost few: { length held.items ≤ 1 },
 }
 
-impl<I: TrunkInput, T: SlotTeller> SlotInput<I, T> {
+impl<I: TrunkInput> SlotInput<I> {
     /// A trunk of this law of which nothing has come yet, and whose first octet is at this place in a
     /// multiframe. Its device has slots 1 to 31 alone if `is_on` holds.
-    pub fn new(incoming: I, is_on: bool, law: Law, place: u16, teller: T) -> SlotInput<I, T>
+    pub fn new(incoming: I, is_on: bool, law: Law, place: u16, errors: Stderr) -> SlotInput<I>
         requires came { I.came incoming ≡ [] }
         requires place { place < 512 }
         ensures incoming { result.incoming ≡ incoming }
@@ -65,7 +61,7 @@ impl<I: TrunkInput, T: SlotTeller> SlotInput<I, T> {
             place: AtStart::of(&place),
             held: ArrayVec::new(),
             only_held: false,
-            teller,
+            errors,
             told: None,
             log: Log::new(),
         }
@@ -102,14 +98,26 @@ fn make(
     }
 }
 
-// Reports what has become of slot 16, if that is something else than what was reported last.
-fn tell<T: SlotTeller>(slots: &SlotReceiver, teller: &mut T, told: &mut Option<u8>)
+// Prints that slot 16 is found, and by how many octets others are delayed, or that it is lost.
+fn print_slots(errors: &Stderr, late: Option<u8>) {
+    match late {
+        Some(late) => {
+            let _ = eprintln!(errors; "slots found {late}");
+        }
+        None => {
+            let _ = eprintln!(errors; "slots lost");
+        }
+    }
+}
+
+// Prints what has become of slot 16, if that is something else than what was printed last.
+fn tell(slots: &SlotReceiver, errors: &Stderr, told: &mut Option<u8>)
     ensures late { (law : Law) (place : ℕ) (taken made : List ℕ) → HasMadeWhole slots.now law place taken made
         → told.new ≡ late_from place taken }
 {
     let late = slots.late();
     if late != *told {
-        teller.tell(late);
+        print_slots(errors, late);
         *told = late;
     }
 }
@@ -138,7 +146,7 @@ fn most_read(room: usize) -> usize
     (room / 32 * 31).max(1).min(MOST_READ)
 }
 
-impl<I: TrunkInput, T: SlotTeller> TrunkInput for SlotInput<I, T> {
+impl<I: TrunkInput> TrunkInput for SlotInput<I> {
     ghost came = { λ d. d.log.octets };
 
     ghost asked = { λ d. I.asked d.incoming };
@@ -171,7 +179,7 @@ impl<I: TrunkInput, T: SlotTeller> TrunkInput for SlotInput<I, T> {
         let mut octets = [0u8; MOST_READ];
         let read = self.incoming.read(&mut octets[..most_read(room.len())]);
         make(slots, &read, &octets, &mut self.held);
-        tell(slots, &mut self.teller, &mut self.told);
+        tell(slots, &self.errors, &mut self.told);
         match read {
             Ok(DeviceRead::Octets(_)) => {
                 let n = give(&mut self.held, room, &mut self.log);

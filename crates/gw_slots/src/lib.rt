@@ -7,4 +7,4 @@ mod incoming;
 mod receiving;
 
 pub use dropping::SlotDropper;
-pub use incoming::{SlotInput, SlotTeller};
+pub use incoming::SlotInput;

@@ -13,10 +13,10 @@ use gw_filter::{
     ToReports,
 };
 use gw_filtered::{FilteredInput, FilteredOutput, PhasedFilter, SwitchedFilter};
-use gw_machine::{ProgramFault, tell_live, tell_slots};
+use gw_machine::{ProgramFault, tell_live};
 use gw_records::NO_TOTALS;
 use gw_session::FromRead;
-use gw_slots::{SlotDropper, SlotInput, SlotTeller};
+use gw_slots::{SlotDropper, SlotInput};
 use gw_switch::Gateway;
 use gw_trunk::{DeviceFault, MultiframeDropper, TrunkInput, TrunkOutput, open_pair};
 use mio::net::UnixStream;
@@ -28,18 +28,6 @@ pub(crate) type Checker = ReportingChecker<ToReports<UnixStream>, PrintedCounts>
 
 /// Puts CRC-4 multiframes into what goes, from a place in a multiframe on.
 pub(crate) type Sender = PhasedFilter<ReportingSender<FromRead<UnixStream>>>;
-
-/// Prints on standard error when slot 16 is found and lost.
-#[derive(Drop)]
-pub(crate) struct PrintedSlots {
-    pub(crate) errors: Stderr,
-}
-
-impl SlotTeller for PrintedSlots {
-    fn tell(&mut self, late: Option<u8>) {
-        tell_slots(&self.errors, late);
-    }
-}
 
 /// Prints the counts of a checker on standard error, if that is asked for.
 #[derive(Drop)]
@@ -62,7 +50,7 @@ impl CountsTeller for PrintedCounts {
 
 /// What comes of a trunk, with all slots, aligned and then checked.
 pub(crate) type Incoming<I> = FilteredInput<
-    FilteredInput<SlotInput<I, PrintedSlots>, SwitchedFilter<BitAligner>>,
+    FilteredInput<SlotInput<I>, SwitchedFilter<BitAligner>>,
     SwitchedFilter<Checker>,
 >;
 
@@ -183,7 +171,7 @@ pub(crate) fn slot_input<I: TrunkInput>(
     slots: bool,
     law: Law,
     gateway: &Gateway,
-) -> SlotInput<I, PrintedSlots>
+) -> SlotInput<I>
     requires { I.came incoming ≡ [] }
     ensures incoming { result.incoming ≡ incoming }
     ensures slots { is_some result.slots ≡ slots }
@@ -191,18 +179,12 @@ pub(crate) fn slot_input<I: TrunkInput>(
     ensures place { result.place.value ≡ gateway.now.trunk.position % 512 }
     ensures log { result.log.octets ≡ [] }
 {
-    SlotInput::new(
-        incoming,
-        slots,
-        law,
-        gateway.place(),
-        PrintedSlots { errors },
-    )
+    SlotInput::new(incoming, slots, law, gateway.place(), errors)
 }
 
 /// What comes of a trunk with all slots, as these filters return it.
 pub(crate) fn filtered_input<I: TrunkInput>(
-    incoming: SlotInput<I, PrintedSlots>,
+    incoming: SlotInput<I>,
     aligner: Option<BitAligner>,
     checker: Option<Checker>,
 ) -> Incoming<I>
