@@ -25,15 +25,7 @@ pub(crate) fn run(
     let mut ports = open_trunk_ports(rt, options, &config)?;
     let mut teller = open_teller(rt, options.tell, &config, &gateway)?;
     let law = config.gateway.law;
-    let end = serve(
-        rt.alloc(),
-        law,
-        &mut gateway,
-        trunk,
-        &mut ports,
-        &mut tape,
-        &mut teller,
-    );
+    let end = serve(law, &mut gateway, trunk, &mut ports, &mut tape, &mut teller);
     if let Some(teller) = &mut teller {
         teller.end();
     }

@@ -63,12 +63,12 @@ struct TrunkEnds<I: TrunkInput, A: TrunkOutput> {
     answers: A,
     filters: TrunkFilters,
     errors: Stderr,
+    alloc: Global,
 }
 
 // Serves a trunk between its ends by a gateway, through the filters that are there.
 #[inline(never)]
 fn serve_ends<I: TrunkInput + Drop, A: TrunkOutput + Drop, P: Ports, T: Tape, W: Watch>(
-    alloc: Global,
     law: Law,
     gateway: &mut Gateway,
     ends: TrunkEnds<I, A>,
@@ -88,6 +88,7 @@ fn serve_ends<I: TrunkInput + Drop, A: TrunkOutput + Drop, P: Ports, T: Tape, W:
         answers,
         filters,
         errors,
+        alloc,
     } = ends;
     let TrunkFilters {
         slots,
@@ -113,7 +114,6 @@ fn serve_ends<I: TrunkInput + Drop, A: TrunkOutput + Drop, P: Ports, T: Tape, W:
 /// Serves a trunk by a gateway of this law, until no octet comes any more. Datagrams come and go through the
 /// ports, the tape takes what happens, and the watch is shown it.
 pub fn serve<P: Ports, T: Tape, W: Watch>(
-    alloc: Global,
     law: Law,
     gateway: &mut Gateway,
     trunk: OpenTrunk,
@@ -128,6 +128,7 @@ pub fn serve<P: Ports, T: Tape, W: Watch>(
         outgoing,
         filters,
         errors,
+        alloc,
     } = trunk;
     match incoming {
         Incoming::Alone(incoming) => {
@@ -137,8 +138,9 @@ pub fn serve<P: Ports, T: Tape, W: Watch>(
                 answers: NoClients::new(),
                 filters,
                 errors,
+                alloc,
             };
-            serve_ends(alloc, law, gateway, ends, ports, tape, watch)
+            serve_ends(law, gateway, ends, ports, tape, watch)
         }
         Incoming::Clients(incoming, answers) => {
             let ends = TrunkEnds {
@@ -147,8 +149,9 @@ pub fn serve<P: Ports, T: Tape, W: Watch>(
                 answers,
                 filters,
                 errors,
+                alloc,
             };
-            serve_ends(alloc, law, gateway, ends, ports, tape, watch)
+            serve_ends(law, gateway, ends, ports, tape, watch)
         }
     }
 }

@@ -8,6 +8,7 @@ use gw_command::{ControlOptions, TrunkOptions};
 use gw_machine::{Machine, ProgramFault};
 use gw_trunk::{FromDevice, ToDevice, WithClients, open_clients};
 use mio::net::UnixStream;
+use std::alloc::Global;
 use std::net::Net;
 use std::rt::{Stderr, Stdin, Stdout};
 
@@ -30,6 +31,7 @@ pub struct OpenTrunk {
     pub(crate) outgoing: ToDevice<Stdout>,
     pub(crate) filters: TrunkFilters,
     pub(crate) errors: Stderr,
+    pub(crate) alloc: Global,
 }
 
 // Opens standard input without clients.
@@ -112,5 +114,6 @@ pub fn open_trunk(
         outgoing,
         filters,
         errors: rt.errors(),
+        alloc: rt.alloc(),
     })
 }
