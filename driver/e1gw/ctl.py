@@ -54,6 +54,11 @@ def path_of(word: str) -> str:
     return word if '/' in word or Path(word).is_socket() else f'{SOCKETS}/{word}/control'
 
 
+def trunks_meant(asked: argparse.Namespace) -> list[tuple[str, str]]:
+    """The trunks that a command is for, as their sockets are now."""
+    return trunks_here() if asked.all else [(asked.path, path_of(asked.path))]
+
+
 def unit_words(path: str, fault: OSError) -> str:
     """What to look at if no trunk listens where one of a unit would."""
     folder, name = os.path.split(os.path.dirname(path))
@@ -149,7 +154,7 @@ def move(name: str, node: str) -> int:
 def own_command(asked: argparse.Namespace, parser: argparse.ArgumentParser, command: list[str], patience: float
                 ) -> int | None:
     """Does what e1gw-ctl does by itself, and returns the status; None of a command for a trunk."""
-    trunks = trunks_here() if asked.all else [(asked.path, path_of(asked.path))] if command else []
+    trunks = trunks_meant(asked) if command else []
     first, end = getattr(asked, 'from'), asked.to
     match command:
         case ['calls']:
@@ -161,7 +166,7 @@ def own_command(asked: argparse.Namespace, parser: argparse.ArgumentParser, comm
             circuits, state = {*map(circuit_of, circuits_of(its[0] if its else ''))}, ' '.join(its[1:])
             if 0 in circuits or state not in STATES:
                 parser.error(f'wait: wants circuits, 1 to 30, and a state: {", ".join(STATES)}')
-            return wait(trunks, AwaitedState(circuits, state), getattr(asked, 'for'), patience)
+            return wait(lambda: trunks_meant(asked), AwaitedState(circuits, state), getattr(asked, 'for'), patience)
         case ['codec', numbers, codec, kind, 'save'] if not asked.all:
             return codec_saved(path_of(asked.path), numbers, codec, kind, patience)
         case ['why', *its]:

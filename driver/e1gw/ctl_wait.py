@@ -3,7 +3,7 @@ from __future__ import annotations
 
 import time
 from dataclasses import dataclass
-from typing import Any, Collection, Mapping
+from typing import Any, Callable, Collection, Mapping
 
 from .ctl_all import status_of
 from .faults import words_of_fault
@@ -47,13 +47,13 @@ class AwaitedState:
             return False, f'it does not answer: {words_of_fault(fault, path)}'
 
 
-def wait(trunks: Trunks, awaited: AwaitedState, seconds: float | None, patience: float) -> int:
-    """Prints a line for each trunk whenever its states have changed, until all are as awaited, or the seconds are over;
-    returns the status."""
+def wait(trunks: Callable[[], Trunks], awaited: AwaitedState, seconds: float | None, patience: float) -> int:
+    """Prints a line for each trunk of now whenever its states have changed, until all are as awaited, or the seconds
+    are over; returns the status."""
     until, told = seconds is not None and time.monotonic() + seconds, dict[str, str]()
     try:
         while True:
-            found = {name: awaited.look(path, patience) for name, path in trunks}
+            found = {name: awaited.look(path, patience) for name, path in trunks()}
             for name, (_, words) in found.items():
                 if words != told.get(name):
                     print(f'{time.strftime("%H:%M:%S", time.gmtime())} {name}: {words}', flush=True)

@@ -261,6 +261,11 @@ class CtlOwnCommandTests(CtlAnswerCase):
         self.trunks['east'].answers['status json'] = '{"fault": "not open yet", "circuits": []}\n\n'
         self.assertEqual(self.waited('--all', 'wait', '9', 'blocked', '--for', '0'), (
             3, ['east: not open yet', 'west: 9 blocked', 'not all are blocked after 0 s']))
+        with contextlib.chdir(self.folder), mock.patch('e1gw.ctl_wait.time.sleep', lambda _: os.symlink(
+                self.trunks['west'].path, 'later')):
+            missing = self.path('run/later/control')
+            self.assertEqual(self.waited('later', 'wait', '9', 'blocked'), (
+                0, [f'later: nobody listens at {missing}', 'later: 9 blocked']))
         for line in 'status --for 3', 'wait 7', 'wait 7 unheard', 'wait 31 idle', 'wait':
             self.assertEqual(self.ctl('west', *line.split())[0], 2)
 
