@@ -27,10 +27,13 @@ PAUSE = 1.0                 # seconds without octets, which are told as a stall
 @dataclass(frozen=True)
 class ClockFinding:
     """What was found: `gap` and `ahead` (with the seconds that octets were displaced by), `rate` (with parts in a
-    million), or `wrong rate` and `right rate` (with the part of the octets that came)."""
+    million), or `wrong rate` and `right rate` (with the part of the octets that came). Of a gap also when the first
+    octet that was lost was due, and how many octets came since."""
 
     what: str
     value: float
+    since: float | None = None
+    octets: int = 0
 
 
 class TrunkRate:
@@ -81,12 +84,15 @@ class Clock:
         self._lows: deque[float] = deque(maxlen=WINDOW)
         self._base: float | None = None     # what octets are behind by as a rule
         self._steps = 0.0                   # of that, what gaps have added
+        self._on_time = 0                   # octets up to the last one that did not come later than a gap
         self._rates: deque[tuple[float, float]] = deque()
 
     def took(self, count: int, now: float) -> None:
         """So many octets were read."""
         self.octets += count
         behind = now - self._began - self.octets / OCTETS_A_SECOND
+        if self._base is None or behind - self._base <= self.gap:
+            self._on_time = self.octets
         self._last = now
         self._low = behind if self._low is None else min(behind, self._low)
 
@@ -136,13 +142,15 @@ class Clock:
         return found + self._look_at_rate(now, behind - self._steps)
 
     def _step(self, displaced: float) -> ClockFinding:
-        self._base = (self._base or 0.0) + displaced
+        before = self._base or 0.0
+        self._base = before + displaced
         self._steps += displaced
         if displaced < 0:
             return ClockFinding('ahead', -displaced)
         self.gaps += 1
         self.lost_seconds += displaced
-        return ClockFinding('gap', displaced)
+        since = self._began + before + self._on_time / OCTETS_A_SECOND
+        return ClockFinding('gap', displaced, since, self.octets - self._on_time)
 
     def _look_at_rate(self, now: float, behind: float) -> list[ClockFinding]:
         """The rate over the last minute, from one sample each second."""

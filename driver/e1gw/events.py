@@ -236,8 +236,10 @@ class Flows(FlowChanged):
     name, text, usual, turns = 'flows', 'octets again after {0.seconds} s', Level.NOTICE, ('stalled', False)
 
 
+@dataclass(frozen=True)
 class Slip(FlowChanged):
     name, text = 'gap', 'slip: {0.seconds} s of the trunk were lost'
+    since: float | None = None          # when the first octet that was lost was due, in seconds since 1970
 
 
 class Burst(FlowChanged):

@@ -57,12 +57,12 @@ def outages_of(events: Iterable[Mapping[str, Any]]) -> list[TrunkOutage]:
             calls.pop(event['circuit'], None)
             calls |= {event['circuit']: event.get('call', '')} if event['state'] in IN_CALL else {}
         elif name == 'gap':
-            is_slip, begin = event['seconds'] < OUTAGE, time - event['seconds']
+            is_slip, begin = event['seconds'] < OUTAGE, event.get('since', time - event['seconds'])
             its = next((each for each in reversed(found) if not is_slip and each.kind == NO_OCTETS
                         and each.last is not None and time - each.end < SOON), None)
             if not its:
                 found.append(its := TrunkOutage(SLIP if is_slip else NO_OCTETS, begin))
-            its.begin, its.end, its.last = begin, time, place
+            its.begin, its.end, its.last = begin, begin + event['seconds'], place
             its.calls |= {n: its.calls.get(n, set()) | {call} for n, call in calls.items()}
         elif kind and STOPS.get(name, event.get('on')):
             if kind not in going:

@@ -22,7 +22,7 @@ def event(time: float, name: str, place: int, **fields: Any) -> dict[str, Any]:
 SEIZED = event(90.0, 'state', 1, circuit=3, was='idle', state='seized', call='a-3-1')
 LFA = event(110.0, 'alarm', 1000, what='frame', on=True), event(121.0, 'alarm', 20_000, what='frame', on=False)
 AWAY = (event(112.0, 'stalled', 1500, seconds=1.0), event(120.0, 'flows', 1501, seconds=9.0),
-        event(120.5, 'gap', 9000, seconds=9.25))
+        event(120.5, 'gap', 9000, seconds=9.25, since=111.1))
 
 
 class OutageTests(unittest.TestCase):
@@ -34,7 +34,7 @@ class OutageTests(unittest.TestCase):
                         event(130.0, 'gap', 90_000, seconds=0.25))
         self.assertEqual([each.fields('west')[1:] for each in found], [
             ('LFA', '1970-01-01T00:01:50.000Z', '1970-01-01T00:02:01.000Z', '11.000', '3-4', 'a-3-1 a-4-1'),
-            (NO_OCTETS, '1970-01-01T00:01:51.250Z', '1970-01-01T00:02:00.500Z', '9.250', '4', 'a-4-1'),
+            (NO_OCTETS, '1970-01-01T00:01:51.100Z', '1970-01-01T00:02:00.350Z', '9.250', '4', 'a-4-1'),
             (SLIP, '1970-01-01T00:02:09.750Z', '1970-01-01T00:02:10.000Z', '0.250', '4', 'a-4-1')])
 
     def test_a_start_is_none(self) -> None:
@@ -72,5 +72,6 @@ class OutageTests(unittest.TestCase):
         for seconds in 0.25, 9.25:
             place, begin = 9 * OCTETS_A_SECOND, 1000.0
             clock = SessionClock(begin, breaks_of([FileNote(0, begin, 5.0, ((place, seconds),))]))
-            (found,) = outages(event(clock.second(place), 'gap', place, seconds=seconds))
+            since = clock.second(place) - seconds
+            (found,) = outages(event(clock.second(place) + 0.16, 'gap', place, seconds=seconds, since=since))
             self.assertEqual((found.begin, found.end, found.last), (begin + 9, begin + 9 + seconds, place))

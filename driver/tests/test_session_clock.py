@@ -18,6 +18,7 @@ from e1gw.session_clock import FileNote, SessionClock
 from e1gw.session_files import kept
 
 RECORD = MULTIFRAME / OCTETS_A_SECOND       # seconds
+LATE = TICK + 0.02          # .. by which the begin of a file is seen late, at a look
 DAY = 1_800_000_000.0
 
 
@@ -68,7 +69,7 @@ class KeptSession:
         self.now, self.log = 5000.0, WrittenLog(f'{folder}.log')
         self.times: list[tuple[int, float]] = []        # of some places, seconds of the day
         self.outages: list[tuple[float, float]] = []    # from when to when octets were missing, if that was an outage
-        self.journal: list[float] = []                  # the gaps that it has
+        self.journal: list[ClockFinding] = []           # the gaps that it has
         self.reader = self.service()
 
     def service(self) -> reader.LogReader:
@@ -78,7 +79,7 @@ class KeptSession:
         return its
 
     def found(self, finding: ClockFinding) -> None:
-        self.journal += [finding.value] * (finding.what == 'gap')
+        self.journal += [finding] * (finding.what == 'gap')
 
     def begin(self, lost: bool) -> None:
         """Another program. (The end of the one before it has the log read.)"""
@@ -151,11 +152,13 @@ class SessionClockTests(support.LoopCase):
                 session = kept(its.wants.session)
                 clock = SessionClock(session.begin, tuple(session.breaks))
                 for place, second in its.times:
-                    self.assertAlmostEqual(clock.second(place - 1), second, delta=0.05)
+                    self.assertAlmostEqual(clock.second(place - 1), second, delta=LATE)
                 self.told_once(its)
                 if not any(step.service for step in steps):     # (a service does not see what was before it)
                     missing = sum(step.away for step in steps if step.away > 0.1)
-                    self.assertAlmostEqual(sum(its.journal), missing, delta=0.05)
+                    self.assertAlmostEqual(sum(each.value for each in its.journal), missing, delta=0.05)
+                    for begin in [(each.since or 0.0) + DAY for each in its.journal if each.value > 1]:
+                        self.assertLess(min(abs(begin - first) for first, _ in its.outages), 0.05)
 
     def told_once(self, its: KeptSession) -> None:
         """The .json tell the outages that there were: from when to when, and for how long."""
@@ -165,8 +168,7 @@ class SessionClockTests(support.LoopCase):
                 for each in session.breaks if each.is_outage]
         self.assertEqual(len(told), len(its.outages))
         for (first, last), each in zip(its.outages, told):
-            # (a gap is found up to a tenth of a second behind it)
-            for is_true, is_told, delta in zip((first, last, last - first), each, (0.3, 0.3, 0.05)):
+            for is_true, is_told, delta in zip((first, last, last - first), each, (LATE, LATE, 0.05)):
                 self.assertAlmostEqual(is_true, is_told, delta=delta)
 
 

@@ -77,6 +77,14 @@ class WatchEdgeTests(TrunkWatchCase):
             self.assertEqual([record[:2] for record in self.given], given)
             self.assertEqual(found._values()['renewed'], len(given))
 
+    async def test_since_when_octets_were_lost(self) -> None:
+        """By the time of day."""
+        found, told = self.watched(), list[Event]()
+        clock = SimpleNamespace(time=lambda: 1e9, monotonic=lambda: 100.0)
+        with mock.patch.object(watch, 'time', clock), mock.patch.object(found, 'tell', told.append):
+            found.flowed(ClockFinding('gap', 0.25, 97.5))
+        self.assertEqual(told, [Slip(0.25, 1e9 - 2.5)])
+
     async def test_counts_go_on(self) -> None:
         """Behind another watcher, and behind one that has no note but of how calls are named."""
         found, commands = self.watched(), ('command 3 1 0', 'command 4 1 0')

@@ -196,7 +196,8 @@ class LogReader:
         if self.read():
             for finding in self.clock.look(time.monotonic()):
                 if finding.what == 'gap' and self._recording and self._begun is not None:
-                    self._recording.slip(self.octets, round(finding.value, 3))
+                    first = max(self.octets - finding.octets, self._begun + 1)      # (what was before has its own file)
+                    self._recording.slip(first, round(finding.value, 3))
                 self.found(finding)
 
     def read(self) -> bool:

@@ -237,8 +237,9 @@ class TrunkWatch:
             return self.tell(RateChanged(round(finding.value, 1)))
         if finding.what in ('wrong rate', 'right rate'):
             return self.tell(WrongRate(finding.what == 'wrong rate', round(100 * finding.value, 2)))
-        seconds = round(finding.value, 3)
-        self.tell(Slip(seconds) if finding.what == 'gap' else Burst(seconds))
+        seconds, since = round(finding.value, 3), finding.since
+        since = since and round(time.time() - time.monotonic() + since, 3)
+        self.tell(Slip(seconds, since) if finding.what == 'gap' else Burst(seconds))
         self._restarts.want(self._lines.open_circuits(), f'{finding.what} of {seconds} s')
 
     def _note(self, what: str, why: str | None) -> None:
