@@ -20,7 +20,7 @@ from .watcher.page import length, outages_page
 LAST = 20                   # calls that have ended, if nothing else is asked for
 WRITTEN = 3600.0            # seconds behind its end within which each has its line
 HEAD = (f'{"trunk":12}  n {"role":8} {{zone:23}} {"answered":12} {"ended":12} {"by":16} {"codec":7} '
-        f'{"sent":>8} {"received":>8} {"lost":>6} {"late":>6}  {"call":16} discarded')
+        f'{"sent":>8} {"received":>8} {"lost":>6} {"late":>6}  {"discarded":27} call')
 
 OUTAGE = '{:12} {:13} {:24} {:24} {:>11}  {:14} {}'
 
@@ -71,7 +71,7 @@ def row_of(call: CallLine) -> str:
     seized, answered, ended = map(local_words, (call.seized, call.answered, call.ended))
     return (f'{call.trunk:12} {call.circuit:>2} {call.direction:8} {seized or ended[:10]:23} {answered[11:]:12} '
             f'{ended[11:]:12} {call.by:16} {call.codec:7} {call.sent:>8} {call.received:>8} {call.lost:>6} '
-            f'{call.late:>6}  {call.call:16} {words_of_call(call)}').rstrip()
+            f'{call.late:>6}  {words_of_call(call):27} {call.call}')
 
 
 def sums_words(sums: CallSums) -> Iterator[str]:

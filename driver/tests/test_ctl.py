@@ -215,9 +215,9 @@ class CtlOwnCommandTests(CtlAnswerCase):
         told = self.ctl('west', 'calls', '--last', '1', '--to', '2027-01-15T13:59:00')[1]
         self.assertEqual(told, [
             'trunk         n role     seized (IST)            answered     ended        by               codec    '
-            '   sent received   lost   late  call             discarded',
+            '   sent received   lost   late  discarded                   call',
             'west          2 outgoing 2027-01-15 13:59:00.000              13:59:30.500 gateway          pcma     '
-            '      1        2      3      4  1f-2-29',
+            '      1        2      3      4                              1f-2-29',
             '', '1 calls, 0 answered: 0:00 on average, 0:00 in all; 1 at once at most'])
         self.assertEqual(self.ctl('west', 'calls', '--last', '1', '--to', '2027-01-15T13:59', '--csv')[1], [
             ','.join(FIELDS), csv_line(ended[29])])

@@ -166,7 +166,7 @@ class DeafCallTests(support.FolderCase):
             shown = ended_row(csv_line(line), None)
             self.assertEqual((shown[-2], 'class="bad"' in body_of('calls', [shown])),
                              (words, words.startswith('hears')), line)
-            self.assertTrue(row_of(line).endswith(f'  id-7-1           {words}'.rstrip()), line)
+            self.assertTrue(row_of(line).endswith(f'  {words:27} id-7-1'), line)
 
     def test_a_file_of_an_older_version(self) -> None:
         """Its lines are read; it is FILE.1 from now on, and one with all columns begins."""

@@ -264,8 +264,7 @@ class TrunkWatch:
             'uptime': 0.0 if fault else round(now - facts['since'], 3),
             'calls': [line._asdict() for line in self.status.calls.going()],
             **wants.files(), 'stale': self.counts.stale(), 'ended': self.ended | {'session': facts['session']},
-            'renewed': self._resyncs, 'alarms': self._events.alarms(),
-            'waiting': self._reloads.waiting(),
+            'renewed': self._resyncs, 'alarms': self._events.alarms(), 'waiting': self._reloads.waiting(),
             'commands': [{'command': name, 'answer': answer, 'count': n}
                          for (name, answer), n in sorted(self._done.items())]}
         status['clock'] = self.trunk.flow() | status['clock']
