@@ -119,6 +119,8 @@ def begin(holder: Holder) -> None:
         give_log(holder)
     close_rest(holder)
     holder.listen()                         # (before it is known: who knows it may ask)
+    if 'client' in store.files:             # .. who asked for a replacement, too
+        HolderRequest.of(store.files['client'], 'replace').done()
     if not holder.is_active:
         holder.waits('it does not have the trunk')
     holder.keep()
@@ -158,8 +160,6 @@ def replaced(holder: Holder) -> None:
     holder.loop.watch(holder.program.file, lambda: None)
     holder.since = was['since']
     holder.line.take_up(was['line'])
-    if 'client' in files:
-        HolderRequest.of(files['client'], 'replace').done()
     say(Severity.NOTICE, f'{holder.why}: program {was["child"]} goes on')
 
 
