@@ -105,7 +105,7 @@ class Edits(unittest.TestCase):
 class Mutants(FolderCase):
     def setUp(self) -> None:
         super().setUp()
-        for path, text in (('driver/e1gw/numbers.py', MODULE), ('driver/e1gw/__init__.py', ''),
+        for path, text in (('bin/e1gw', ''), ('driver/e1gw/numbers.py', MODULE), ('driver/e1gw/__init__.py', ''),
                            ('driver/tests/__init__.py', ''), ('driver/tests/test_numbers.py', TESTS)):
             self.write(path, text)
 
