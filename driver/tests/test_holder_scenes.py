@@ -167,6 +167,16 @@ class HolderDeathTests(HolderCase):
         self.as_uncut()
         self.ends()
 
+    def test_a_crash_behind_a_death(self) -> None:
+        """What the program before it may have lost is told by the one that is up."""
+        bad = self.path('bad')
+        self.options += ['--program', self.scripted(f'test "$1" = trunk -a -e {bad} && rm {bad} && kill -SEGV $$')]
+        self.begins()
+        self.write('bad', '')
+        os.kill(self.program, signal.SIGKILL)
+        self.assertIn('2048 octets', self.goes_on())
+        self.ends()
+
     def test_five_crashes(self) -> None:
         """Of a log with which each program crashes none is to be had: it is put aside."""
         self.options += ['--program', self.scripted(f'test "$1" = trunk -a -e {self.path("bad")} && kill -SEGV $$')]

@@ -35,7 +35,8 @@ def follow(holder: Holder, program: HeldProgram, status: int, now: float) -> Non
     if program.asked or program.is_up:
         holder.silent = program.asked or now
     holder.why = str(end.reason.value) if is_asked and end.is_well else f'the program {words}'
-    holder.lost = LOST if end.was_up and not end.is_well else ''
+    if end.was_up:                          # (else what was lost before it is still to be told)
+        holder.lost = '' if end.is_well else LOST
     holder.loop.leave(program.file)
     program.close()
     holder.program, holder.reason = None, EndReason.NONE
