@@ -97,8 +97,8 @@ def put_package(its: MachineFiles, folder: Path, program: str) -> None:
 
 def put_programs(its: MachineFiles, folder: Path, programs: dict[str, str]) -> None:
     """The Python programs and the scenes as they are now, compiled, and built programs with their libraries."""
-    shutil.copytree(Path(TOP, 'driver'), folder / 'e1gw/driver',
-                    ignore=shutil.ignore_patterns('__pycache__', 'tests'))
+    for name in 'bin', 'driver':
+        shutil.copytree(Path(TOP, name), folder / 'e1gw' / name, ignore=shutil.ignore_patterns('__pycache__', 'tests'))
     for name in SCENES:
         put(Path(TOP, 'scripts', name), folder / 'e1gw/scripts' / name)
     put_package(its, folder, programs['e1gw'])
