@@ -321,6 +321,7 @@ class TwoMachinesTests(PairCase):
         b.answers()
         self.assertEqual(a.ask('unblock 8'), 'unblock 8: done')
         self.fed(b)
+        support.until(lambda: self.blocked(b) == ['blocking', None])
         a.power_off()
         self.promoted(b)
         self.assertEqual(self.blocked(b), ['blocking', None])

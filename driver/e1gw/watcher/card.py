@@ -25,7 +25,7 @@ class CardWatch:
     def __init__(self, tell: Tell, told: int) -> None:
         self._tell, self._told = tell, Alarm(told)
         self._span: SpanFacts | None = None
-        self._file, self._said, self._due = -1, '', -inf
+        self._said, self._due = '', -inf
 
     @property
     def told(self) -> int:
@@ -39,8 +39,11 @@ class CardWatch:
             return
         self._due = now + LOOK
         try:
-            self._file = os.open(CONTROL, os.O_RDWR | os.O_CLOEXEC) if self._file < 0 else self._file
-            self._span, why = span_of(self._file, span), ''
+            file = os.open(CONTROL, os.O_RDWR | os.O_CLOEXEC)   # (what stays open keeps the driver from being unloaded)
+            try:
+                self._span, why = span_of(file, span), ''
+            finally:
+                os.close(file)
         except OSError as fault:
             self.close()
             why = words_of_fault(fault, CONTROL)
@@ -72,6 +75,4 @@ class CardWatch:
 
     def close(self) -> None:
         """Nothing is known of it from now on."""
-        if self._file >= 0:
-            os.close(self._file)
-        self._file, self._span = -1, None
+        self._span = None
