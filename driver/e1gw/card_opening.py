@@ -9,7 +9,7 @@ import stat
 from contextlib import suppress
 
 from .dahdi import Blocks, CardFault, DahdiChannel, is_channel
-from .fault_words import named, words_of_fault
+from .fault_words import name_of_process, named, words_of_fault
 from .trunks import Stream, open_files
 
 FOLDER = '/dev/dahdi/'                  # of DAHDI's devices, with its driver and without
@@ -30,8 +30,7 @@ def holders(path: str) -> list[str]:
     for each in glob.glob('/proc/[0-9]*/fd/*'):
         with suppress(OSError):
             if stat.S_ISCHR((about := os.stat(each)).st_mode) and about.st_rdev == device:
-                with open(f'/proc/{(pid := each.split("/")[2])}/comm', encoding='utf-8', errors='replace') as name:
-                    found.add(f'{name.read().strip()} ({pid})')
+                found.add(f'{name_of_process(pid := each.split("/")[2])} ({pid})')
     return sorted(found)
 
 

@@ -18,6 +18,16 @@ def named(fault: OSError, what: str) -> OSError:
     return OSError(fault.errno or 0, words_of_fault(fault, what))
 
 
+def name_of_process(pid: int | str) -> str:
+    """The name of a process, by its command line: a program that was started by a descriptor has else the name `9`.
+    OSError if it is not seen."""
+    with open(f'/proc/{pid}/cmdline', encoding='utf-8', errors='replace') as words:
+        if name := os.path.basename(words.read(4096).partition('\0')[0]):
+            return name
+    with open(f'/proc/{pid}/comm', encoding='utf-8', errors='replace') as file:     # (a thread of the kernel)
+        return file.read().strip()
+
+
 def options_words() -> str:
     """The file with a unit's options, behind an error in them; nothing if no unit started this."""
     path = os.environ.get('E1GW_OPTIONS')

@@ -4,6 +4,7 @@ from __future__ import annotations
 
 import errno
 import os
+import subprocess
 import tempfile
 import unittest
 from dataclasses import replace
@@ -14,6 +15,7 @@ from e1gw import card_opening, dahdi
 from e1gw.dahdi import (BUFFERS, NUMBER, PARAMETERS, SPAN, Alarm, Blocks, CardFault, DahdiChannel, Request, SpanFacts,
                         channel_facts, span_facts)
 from e1gw.events import Event
+from e1gw.fault_words import name_of_process
 from e1gw.watcher.card import CardWatch
 
 
@@ -125,6 +127,13 @@ class SetUpTests(unittest.TestCase):
             with self.assertRaisesRegex(CardFault, words):
                 channel.set_up(Blocks(16, 8))
             self.assertEqual(channel.asked, [])
+
+    def test_who_was_started_by_a_descriptor(self) -> None:
+        """Has the name of its command line: that of the descriptor would be its number."""
+        with open('/bin/sleep', 'rb') as file, subprocess.Popen(
+                ['e1gw', '900'], executable=f'/proc/self/fd/{file.fileno()}', pass_fds=[file.fileno()]) as process:
+            self.assertEqual(name_of_process(process.pid), 'e1gw')
+            process.kill()
 
     def test_advice(self) -> None:
         """Of a card alone; a channel that is held names who holds it."""

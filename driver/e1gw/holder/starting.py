@@ -9,7 +9,7 @@ import time
 from contextlib import suppress
 from typing import TYPE_CHECKING
 
-from ..fault_words import words_of_fault
+from ..fault_words import name_of_process, words_of_fault
 from ..writers import put_file
 from .decisions import FIRST_PAUSE
 from .journal import Severity, say
@@ -117,8 +117,8 @@ def waits_for_log(holder: Holder, now: float) -> bool:
 
 def name_of(pid: int) -> str:
     """A process, in words."""
-    with suppress(OSError), open(f'/proc/{pid}/comm', encoding='utf-8', errors='replace') as name:
-        return f'process {pid} ({name.read().strip()})'
+    with suppress(OSError):
+        return f'process {pid} ({name_of_process(pid)})'
     return 'a process that is not seen from here'
 
 
