@@ -7,6 +7,7 @@ import os
 import selectors
 import signal
 import struct
+import sys
 import time
 from contextlib import suppress
 from pathlib import Path
@@ -15,6 +16,7 @@ from typing import Callable
 GIVEN = 'E1GW_CLOCK'
 TIME = struct.Struct('d')       # at which it stands; up to 0, by how much it is ahead of the machine's
 STEP = 0.001                # seconds
+LOOK = 0.1                  # seconds between two looks of a holder while its clock stands
 STOPPED = 'get_signal', 'do_freezer_trap'       # where in the kernel a thread is that a control group stops
 machine = time.monotonic
 
@@ -35,6 +37,12 @@ def put_given() -> None:
     def selects(its: selectors.EpollSelector, timeout: float | None = None) -> object:
         return select(its, None if timeout and timeout > 0 and TIME.unpack(clock)[0] > 0 else timeout)
     setattr(selectors.EpollSelector, 'select', selects)
+    if holds := sys.modules.get('e1gw.holder.loop'):
+        wait = holds.Loop.wait
+
+        def waits(its: object, seconds: float) -> None:     # (one that looks each millisecond never rests)
+            wait(its, max(LOOK, seconds) if seconds > 0 and TIME.unpack(clock)[0] > 0 else seconds)
+        setattr(holds.Loop, 'wait', waits)
     setattr(time, 'monotonic', lambda: read(clock))
 
 
