@@ -1,4 +1,4 @@
-"""The tests of the driver: python3 -m unittest discover -s driver -t driver, from the top."""
+"""The tests of the driver: pytest driver/tests, from the top (scripts/drivers)."""
 import logging
 
 logging.getLogger('asyncio').setLevel(logging.ERROR)        # (a slow turn of a loop is no fault)
