@@ -52,12 +52,10 @@ CALLS: dict[str, list[str]] = {
     'replay --config config': [*READ_CONFIG, 'run'],
     'replay --config config --load old --save new --tell tell':
         [*READ_CONFIG, 'open old RDONLY', *door('tell'), 'run', *NEW_STATE],
-    'serve --config config --record kept --save new':
-        [*READ_CONFIG, 'open kept WRONLY|CREAT|EXCL', *UDP, 'run', *NEW_STATE],
+    'serve --config config --save new': [*READ_CONFIG, *UDP, 'run', *NEW_STATE],
     'serve --config config --senders peer': [*READ_CONFIG, *UDP, 'connect 127.0.0.1:far', 'run'],
     'trunk --config config': [*READ_CONFIG, *UDP, 'run'],
     'trunk --config config --crc4 --align --slots 1-31': ['pair', *READ_CONFIG, *UDP, 'run'],
-    'trunk --config config --record kept': [*READ_CONFIG, 'open kept WRONLY|CREAT|EXCL', *UDP, 'run'],
     'trunk --config config --log log --load old --save new --control control --tell tell --crc4':
         [*LOCKED, *door('control'), 'pair', 'pair', *READ_CONFIG, *logged('RDONLY'), 'open old RDONLY',
          *logged('RDONLY'), *logged('RDWR|CREAT'), *UDP, *door('tell'), 'run', *NEW_STATE],

@@ -20,11 +20,10 @@ _e1gw_options() {
     encode | decode) echo '--law --codec --payload --ptime --ssrc --sequence --timestamp --totals --help' ;;
     replay) echo '--config --load --save --seizure-wait --tell --totals --help' ;;
     check) echo '--config --load --seizure-wait --totals --help' ;;
-    serve)
-      echo '--config --load --save --record --record-over --repeat --seizure-wait --senders --totals --help' ;;
+    serve) echo '--config --load --save --repeat --seizure-wait --senders --totals --help' ;;
     trunk)
-      echo '--config --load --save --align --control --crc4 --end --live --log --record --record-over' \
-        '--repeat --seizure-wait --senders --slots --sockets --tell --totals --help' ;;
+      echo '--config --load --save --align --control --crc4 --end --live --log --repeat' \
+        '--seizure-wait --senders --slots --sockets --tell --totals --help' ;;
     satop) echo '--size --jitter --rtp --sequence --fill --clock --help' ;;
     '') echo '--help --version' ;;
   esac
@@ -48,7 +47,7 @@ _e1gw() {
     --payload | --ssrc | --sequence | --timestamp | --repeat | --seizure-wait | --size | --jitter | --rtp | --end | \
       --sockets)
       return ;;
-    --config | --load | --save | --control | --log | --record | --reports | --tell)
+    --config | --load | --save | --control | --log | --reports | --tell)
       compopt -o filenames 2> /dev/null
       mapfile -t COMPREPLY < <(compgen -f -- "$cur")
       return ;;

@@ -21,7 +21,7 @@ class Killed(Exception):
 
 class LogRoomTests(unittest.TestCase):
     def test_what_the_program_gives_them(self) -> None:
-        text = support.text_of(os.path.join(support.TOP, 'crates', 'gw_files', 'src', 'log_folder.rt'))
+        text = support.text_of(os.path.join(support.TOP, 'crates', 'gw_open', 'src', 'log_folder.rt'))
         for name in 'STATE_ROOM', 'RECORDS_ROOM':
             self.assertIn(f'{name}: u64 = {getattr(log_folder, name):_};', text)
 

@@ -175,16 +175,3 @@ class PortsAskedTests(support.FolderCase):
                     sent = [self.peers[record.circuit].recv(2048) for record in packets]
                     self.assertEqual(back, octets_in(wanted))
                     self.assertEqual(sent, [record.body for record in packets])
-
-
-class RecordedTrunkTests(support.FolderCase):
-    def test_a_recording_that_nobody_reads(self) -> None:
-        """It ends when the pipe (65,536 octets) is full, and the trunk goes on."""
-        out, into = os.pipe()
-        self.addCleanup(os.close, out)
-        words = [support.program(), 'trunk', '--config', self.write('trunk.toml', 'law = "A"\n')]
-        with TrunkProcess([*words, '--record', f'/dev/fd/{into}'], (into,)) as trunk:
-            os.close(into)
-            for _ in range(65):
-                self.assertEqual(len(trunk.passes(bytes(2048))), 2048)
-            self.assertEqual(trunk.ends(), (0, 'recording ended: a write failed\n'))

@@ -4,23 +4,15 @@ ghost use Rattle.std.specs.Prelude.{◌≡◌, []};
 ghost use Rattle.gw_records.specs.Streams.{CanBegin};
 
 use gw_command::Crc4Options;
-use gw_files::open_reports;
 use gw_filter::{
     NoReports, ReportSink, ReportingChecker, ReportingSender, ToReports, align_stream,
     crc4_check_stream, crc4_stream,
 };
-use gw_machine::{LiveCounts, Machine, ProgramFault, tell_check};
+use gw_open::open_reports;
+use gw_report::{LiveCounts, ProgramFault, tell_check};
 use gw_session::{FromRead, RunFault, ToWrite, Totals};
 use std::fs::File;
-use std::rt::{Stdin, Stdout};
-
-// The FIFO of reports at a path, if one is named.
-fn open_named(rt: &impl Machine, path: Option<&str>) -> Result<Option<File>, ProgramFault> {
-    match path {
-        Some(path) => Ok(Some(open_reports(rt, path)?)),
-        None => Ok(None),
-    }
-}
+use std::rt::{Files, Stdin, Stdout};
 
 // Puts CRC-4 multiframes into what goes, with the E bits that the reports ask for.
 fn send(
@@ -112,12 +104,12 @@ pub(crate) fn align(input: Stdin, output: Stdout) -> Result<Totals, ProgramFault
 /// fails.
 #[inline(never)]
 pub(crate) fn crc4(
-    rt: &impl Machine,
+    rt: &(impl Files<File = File> + Eprint),
     options: &Crc4Options<'_>,
     input: Stdin,
     output: Stdout,
 ) -> Result<Totals, ProgramFault> {
-    let reports = open_named(rt, options.reports)?;
+    let reports = open_reports(rt, options.reports)?;
     let mut source = FromRead::new(input);
     let mut sink = ToWrite::new(output);
     crc4_through(rt, options, reports, &mut source, &mut sink).map_err(ProgramFault::Session)

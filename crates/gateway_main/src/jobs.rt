@@ -1,6 +1,6 @@
 //! What `encode` and `decode` do on standard input and output. They are given no files.
 
-use gw_machine::{ProgramFault, tell_skipped};
+use gw_report::{ProgramFault, tell_skipped};
 use gw_session::{FromRead, StreamSpec, ToWrite, Totals, decode_stream, encode_stream};
 use std::rt::{Stdin, Stdout};
 

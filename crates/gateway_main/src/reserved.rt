@@ -3,9 +3,9 @@
 //! While 0, 1 or 2 is closed, the next file or socket takes its number, and records would be read from it, or
 //! answers written to it.
 
-use gw_machine::Machine;
 use std::fs::{File, OpenOptions};
 use std::os::fd::{AsRawFd, RawFd};
+use std::rt::Files;
 use std::{fs, io};
 
 // The file that replaces a closed descriptor.
@@ -21,7 +21,7 @@ pub(crate) struct ReservedDescriptors {
 }
 
 // Opens the file that replaces a descriptor, to be written or to be read.
-fn open_null(rt: &impl Machine, for_writing: bool) -> io::Result<File> {
+fn open_null(rt: &impl Files<File = File>, for_writing: bool) -> io::Result<File> {
     if for_writing {
         OpenOptions::new().write(true).open(rt, NULL)
     } else {
@@ -42,7 +42,7 @@ fn up_to(most: RawFd, opened: io::Result<File>) -> Option<File> {
 }
 
 /// Opens a file for each of 0, 1 and 2 that is closed. If the system cannot open one, it stays closed.
-pub(crate) fn reserve_descriptors(rt: &impl Machine) -> ReservedDescriptors {
+pub(crate) fn reserve_descriptors(rt: &impl Files<File = File>) -> ReservedDescriptors {
     ReservedDescriptors {
         input: up_to(0, open_null(rt, true)),
         output: up_to(2, open_null(rt, false)),

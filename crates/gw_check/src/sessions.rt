@@ -5,9 +5,8 @@ ghost use Rattle.gw_records.specs.Streams.{CanBegin};
 ghost use Rattle.gw_check.specs.Sessions.{Runs, Checks, Lists, checked};
 
 use crate::listing::listing;
-use gw_machine::Nowhere;
 use gw_session::laws::cut_recordings_recover;
-use gw_session::{RunFault, Sink, Source, Totals, run, write_all};
+use gw_session::{Nowhere, RunFault, Sink, Source, Totals, run, write_all};
 use gw_switch::Gateway;
 use std::alloc::Global;
 

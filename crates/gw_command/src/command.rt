@@ -4,9 +4,8 @@ ghost use Rattle.gw_command.specs.Command.{AreDescriptors, IsWaitOf, usual_paylo
 
 use crate::options::{G711, matches, no_descriptors};
 use crate::request::{
-    AlignOptions, ControlOptions, Crc4Options, FilterOptions, PortOptions, RecordOptions,
-    ReplayOptions, Request, SatopOptions, Senders, ServeOptions, SessionOptions, StreamOptions,
-    TrunkOptions,
+    AlignOptions, ControlOptions, Crc4Options, FilterOptions, PortOptions, ReplayOptions, Request,
+    SatopOptions, Senders, ServeOptions, SessionOptions, StreamOptions, TrunkOptions,
 };
 use clap::error::ErrorKind;
 use clap::{ArgMatches, Error};
@@ -177,20 +176,11 @@ fn port_options(found: &ArgMatches<'_>) -> Option<PortOptions> {
     })
 }
 
-// The recording, if one is asked for.
-fn record_options<'a>(found: &ArgMatches<'a>) -> Option<RecordOptions<'a>> {
-    Some(RecordOptions {
-        path: found.get_str("record")?,
-        over: found.get_flag("record-over"),
-    })
-}
-
 // The options of `serve`.
 fn serve_options<'a>(found: &ArgMatches<'a>) -> Option<ServeOptions<'a>> {
     Some(ServeOptions {
         session: session_options(found)?,
         ports: port_options(found)?,
-        record: record_options(found),
     })
 }
 
@@ -246,7 +236,6 @@ fn trunk_options<'a>(
         session: session_options(found)?,
         ports: port_options(found)?,
         sockets,
-        record: record_options(found),
         log: found.get_str("log"),
         tell: found.get_str("tell"),
         control: control_options(found),

@@ -7,7 +7,6 @@ mod request;
 
 pub use command::{Refusal, RefusalKind, arguments, request_of};
 pub use request::{
-    AlignOptions, ControlOptions, Crc4Options, FilterOptions, PortOptions, RecordOptions,
-    ReplayOptions, Request, SatopOptions, Senders, ServeOptions, SessionOptions, StreamOptions,
-    TrunkOptions,
+    AlignOptions, ControlOptions, Crc4Options, FilterOptions, PortOptions, ReplayOptions, Request,
+    SatopOptions, Senders, ServeOptions, SessionOptions, StreamOptions, TrunkOptions,
 };

@@ -225,21 +225,6 @@ const SAVE: OptionRow = OptionRow {
     ..OPTION
 };
 
-const RECORD: OptionRow = OptionRow {
-    name: "record",
-    value_names: &["RECORDING"],
-    kind: Kind::Text,
-    help: "Record what the gateway takes in a new file, for replay and check",
-    ..OPTION
-};
-
-const RECORD_OVER: OptionRow = OptionRow {
-    name: "record-over",
-    kind: Kind::Flag,
-    help: "Let the recording be written over an old file",
-    ..OPTION
-};
-
 const SENDERS: OptionRow = OptionRow {
     name: "senders",
     kind: Kind::Named(&["any", "host", "peer", "first"]),
@@ -438,22 +423,10 @@ const OF_REPLAY: &[OptionRow] = &[CONFIG, LOAD, SAVE, TOTALS, SEIZURE_WAIT, TELL
 const OF_CHECK: &[OptionRow] = &[CONFIG, LOAD, TOTALS, SEIZURE_WAIT];
 
 // The options of a session over UDP.
-const OF_SERVE: &[OptionRow] = &[
-    RECORD,
-    RECORD_OVER,
-    CONFIG,
-    LOAD,
-    SAVE,
-    TOTALS,
-    SENDERS,
-    REPEAT,
-    SEIZURE_WAIT,
-];
+const OF_SERVE: &[OptionRow] = &[CONFIG, LOAD, SAVE, TOTALS, SENDERS, REPEAT, SEIZURE_WAIT];
 
 // The options of a trunk in service.
 const OF_TRUNK: &[OptionRow] = &[
-    RECORD,
-    RECORD_OVER,
     CONFIG,
     LOAD,
     SAVE,

@@ -98,15 +98,6 @@ pub struct PortOptions {
     pub repeat: u8,
 }
 
-/// A recording that is asked for.
-#[derive(Clone, Copy, Debug, PartialEq, Eq)]
-pub struct RecordOptions<'a> {
-    /// The path of its file.
-    pub path: &'a str,
-    /// Whether an old file may be written over.
-    pub over: bool,
-}
-
 /// The options of `serve`.
 #[derive(Clone, Copy, Debug, PartialEq, Eq)]
 pub struct ServeOptions<'a> {
@@ -114,8 +105,6 @@ pub struct ServeOptions<'a> {
     pub session: SessionOptions<'a>,
     /// How datagrams come and go.
     pub ports: PortOptions,
-    /// The recording, if one is asked for.
-    pub record: Option<RecordOptions<'a>>,
 }
 
 /// The clients of a trunk, who give it commands.
@@ -150,8 +139,6 @@ pub struct TrunkOptions<'a> {
     /// The first and the last descriptor of the sockets that the program was given, 3 to 65,535, if it was
     /// given some.
     pub sockets: Option<(u16, u16)>,
-    /// The recording, if one is asked for.
-    pub record: Option<RecordOptions<'a>>,
     /// The folder of the log, if there is to be one.
     pub log: Option<&'a str>,
     /// The path of the socket whose clients are told the state of the trunk.

@@ -1,3 +1,10 @@
 pub mod Calls
 pub mod Checkpoints
 pub mod Logs
+pub mod State
+pub mod Resuming
+pub mod LogContents
+pub mod LogTape
+pub mod Room
+pub mod Starts
+pub mod Lives

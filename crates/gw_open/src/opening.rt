@@ -1,17 +1,21 @@
 //! How what is asked for is opened, and the state of the gateway saved at the end.
 
-use gw_command::{PortOptions, RecordOptions, Senders, SessionOptions, TrunkOptions};
+use crate::files::read_file;
+use crate::state::keep_gateway;
+use gw_command::{PortOptions, Senders, SessionOptions, TrunkOptions};
 use gw_config::Config;
-use gw_files::{LogLock, OneOf, Recording, Tape, begin, begin_log, keep_gateway};
-use gw_log::TrunkLog;
-use gw_machine::{Machine, ProgramFault, tell_result};
 use gw_repeat::{Repeating, packet_words};
+use gw_report::{ProgramFault, tell_result};
 use gw_session::{RunFault, Totals};
 use gw_switch::Gateway;
 use gw_tell::Teller;
 use gw_udp::{Descriptors, OpenFault, Resting, SourceFilter, SystemSocket, UdpPorts};
-use log_files::FileStore;
+use std::fs::File;
 use std::net::Net;
+use std::rt::Files;
+
+// The most octets of the file of a configuration that are read: one more than the longest has.
+const MOST_OCTETS: u64 = 65_537;
 
 // The sockets of the circuits.
 type Ports = UdpPorts<Resting<SystemSocket>>;
@@ -19,63 +23,19 @@ type Ports = UdpPorts<Resting<SystemSocket>>;
 /// The ports that receive and send the datagrams of the circuits.
 pub type SessionPorts = Repeating<Ports>;
 
-/// What a trunk is recorded on: a recording, if one is asked for, or its log.
-pub type TrunkTape = OneOf<Tape, TrunkLog<FileStore>>;
-
-/// Takes the folder of a trunk's log, if it has one. It is held as long as the result.
-pub fn lock_log(
-    rt: &impl Machine,
-    options: &TrunkOptions<'_>,
-) -> Result<Option<LogLock>, ProgramFault> {
-    match options.log {
-        Some(folder) => Ok(Some(gw_files::lock_log(rt, folder)?)),
-        None => Ok(None),
-    }
-}
-
-/// Reads the configuration of a session.
+/// The configuration of a session, in its file.
+///
+/// # Errors
+///
+/// [`ProgramFault::File`] if the system refuses the file or a read of it, [`ProgramFault::Config`] if its
+/// octets are no configuration, [`ProgramFault::OutOfMemory`].
 pub fn read_config(
-    rt: &impl Machine,
+    rt: &(impl Files<File = File> + AllocGlobal),
     options: &SessionOptions<'_>,
 ) -> Result<Config, ProgramFault> {
-    gw_files::read_config(rt, options.config)
-}
-
-/// Opens the gateway of a session: new, or that of the log in a folder, if one is named, or of a state.
-pub fn begin_gateway(
-    rt: &impl Machine,
-    options: &SessionOptions<'_>,
-    log: Option<&str>,
-    config: &Config,
-) -> Result<Gateway, ProgramFault> {
-    gw_files::begin_gateway(rt, &config.gateway, log, options.load, options.seizure_wait)
-}
-
-// The recording that is asked for, if one is. `waits` says whether it is waited for.
-fn recording_of(record: Option<RecordOptions<'_>>, waits: bool) -> Option<Recording<'_>> {
-    let RecordOptions { path, over } = record?;
-    Some(Recording { path, over, waits })
-}
-
-/// Begins the recording of a session, if one is asked for. It is waited for.
-pub fn begin_recording(
-    rt: &impl Machine,
-    record: Option<RecordOptions<'_>>,
-) -> Result<Tape, ProgramFault> {
-    begin(rt, recording_of(record, true))
-}
-
-/// Begins the recording or the log of a trunk. The recording is not waited for.
-pub fn begin_tape(
-    rt: &impl Machine,
-    options: &TrunkOptions<'_>,
-    config: &Config,
-    gateway: &Gateway,
-) -> Result<TrunkTape, ProgramFault> {
-    match options.log {
-        None => Ok(OneOf::First(begin(rt, recording_of(options.record, false))?)),
-        Some(_) if options.record.is_some() => Err(ProgramFault::TwoRecordings),
-        Some(folder) => Ok(OneOf::Second(begin_log(rt, folder, &config.gateway, gateway)?)),
+    match read_file(rt, options.config, MOST_OCTETS) {
+        Ok(octets) => gw_config::read(rt.alloc(), octets.as_slice()).map_err(ProgramFault::Config),
+        Err(error) => Err(ProgramFault::of(&error, ProgramFault::File)),
     }
 }
 
@@ -154,7 +114,7 @@ pub fn open_trunk_ports(
 
 /// Opens the socket of `--tell` at a path, if one is named.
 pub fn open_teller(
-    rt: &impl Machine,
+    rt: &(impl Files + Net + AllocGlobal),
     path: Option<&str>,
     config: &Config,
     gateway: &Gateway,
@@ -176,7 +136,7 @@ pub fn open_teller(
 ///
 /// The fault of the session, or that its state was not saved.
 pub fn end_session(
-    rt: &impl Machine,
+    rt: &(impl Files<File = File> + Eprint + AllocGlobal),
     options: &SessionOptions<'_>,
     config: &Config,
     gateway: &Gateway,

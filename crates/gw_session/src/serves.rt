@@ -1,4 +1,4 @@
-//! A session whose datagrams come and go through ports, also recorded (`serve`).
+//! A session whose datagrams come and go through ports, also with a log (`serve`, `serve_logged`).
 ghost use Rattle.std.specs.Prelude.{◌≡◌, ◌^◌, [], IfOk, IfErr, OnOk, false, true};
 ghost use Rattle.gw_records.specs.Streams.{CanBegin};
 ghost use Rattle.gw_session.specs.Tape.{no_tape};
@@ -67,7 +67,17 @@ pub fn serve<S: Source, P: Ports, K: Sink>(
         (around (S.tells source.new) (K.tells sink.new) (P.tells ports.new) no_tape)
         gateway.old gateway.new) }
 {
-    serve_recorded(alloc, gateway, ports, source, sink, &mut NoTape)
+    let held = HeldPackets::none(alloc);
+    serve_holding::<OctetRecords<S>, OctetAnswers<K>, P, NoTape, NoWatch>(
+        alloc,
+        held,
+        gateway,
+        ports,
+        source,
+        sink,
+        &mut NoTape,
+        &mut NoWatch,
+    )
 }
 
 // Serves, records on a tape what the gateway takes, shows each record to a watch, and holds packets if `held`
@@ -121,50 +131,14 @@ fn serve_holding<R: Records + Drop, A: Answers + Drop, P: Ports, T: Tape, W: Wat
     )
 }
 
-/// Serves as [`serve`] does, and records on a tape what the gateway takes, in the order in which it takes it,
-/// as records of every kind: each before what answers it is written. A tape that ends changes nothing of the
-/// session.
-///
-/// # Errors
-///
-/// Those of [`serve`].
-pub fn serve_recorded<S: Source, P: Ports, K: Sink, T: Tape>(
-    alloc: Global,
-    gateway: &mut Gateway,
-    ports: &mut P,
-    source: &mut S,
-    sink: &mut K,
-    tape: &mut T,
-) -> Result<Totals, RunFault>
-    requires { CanBegin (S.tells source.old) (K.tells sink.old) }
-    ensures ok { IfOk result (ServesAll
-        (around (S.tells source.old) (K.tells sink.old) (P.tells ports.old) (T.tells tape.old))
-        (around (S.tells source.new) (K.tells sink.new) (P.tells ports.new) (T.tells tape.new))
-        gateway.old gateway.new) }
-    ensures fault { IfErr result (ServesUntil
-        (around (S.tells source.old) (K.tells sink.old) (P.tells ports.old) (T.tells tape.old))
-        (around (S.tells source.new) (K.tells sink.new) (P.tells ports.new) (T.tells tape.new))
-        gateway.old gateway.new) }
-{
-    let held = HeldPackets::none(alloc);
-    serve_holding::<OctetRecords<S>, OctetAnswers<K>, P, T, NoWatch>(
-        alloc,
-        held,
-        gateway,
-        ports,
-        source,
-        sink,
-        tape,
-        &mut NoWatch,
-    )
-}
-
-/// Serves the records that come, and puts answers to whatever takes them. Else it does as [`serve_recorded`],
-/// but sends the packets of a record of the trunk when all of it is on the tape, in their order, behind the
-/// receives of its octets. (A record of more than 2,048 octets has its packets sent as they are made.) A
-/// watch is shown each datagram when the gateway was given it, and each record when the gateway has acted on
-/// it. A record in which a write fails may not be shown. If the tape is lost, the session ends before the
-/// next read, where its records can be ended.
+/// Serves the records that come as [`serve`] does, and puts answers to whatever takes them. What the gateway
+/// takes is recorded on a tape, in the order in which it takes it, as records of every kind: each before what
+/// answers it is written. The packets of a record of the trunk are sent when all of it is on the tape, in
+/// their order, behind the receives of its octets. (A record of more than 2,048 octets has its packets sent
+/// as they are made.) A watch is shown each datagram when the gateway was given it, and each record when the
+/// gateway has acted on it. A record in which a write fails may not be shown. A tape that ends changes
+/// nothing of the session; if it is lost, the session ends before the next read, where its records can be
+/// ended.
 ///
 /// # Errors
 ///

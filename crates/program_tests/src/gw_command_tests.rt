@@ -1,9 +1,9 @@
 use e1_g711::Law;
 use g726_codec::CodecKind;
 use gw_command::{
-    AlignOptions, ControlOptions, Crc4Options, FilterOptions, PortOptions, RecordOptions,
-    RefusalKind, ReplayOptions, Request, SatopOptions, Senders, ServeOptions, SessionOptions,
-    StreamOptions, TrunkOptions, request_of,
+    AlignOptions, ControlOptions, Crc4Options, FilterOptions, PortOptions, RefusalKind,
+    ReplayOptions, Request, SatopOptions, Senders, ServeOptions, SessionOptions, StreamOptions,
+    TrunkOptions, request_of,
 };
 use gw_session::StreamSpec;
 use satop_playout::Replacement;
@@ -35,7 +35,6 @@ const TRUNK: TrunkOptions<'static> = TrunkOptions {
     session: SESSION,
     ports: PORTS,
     sockets: None,
-    record: None,
     log: None,
     tell: None,
     control: None,
@@ -61,11 +60,11 @@ const SATOP: SatopOptions<'static> = SatopOptions {
 };
 
 // Trunks, by what stands behind `--config a`.
-const TRUNKS: [(&str, TrunkOptions<'static>); 9] = [
+const TRUNKS: [(&str, TrunkOptions<'static>); 8] = [
     ("", TRUNK),
     (
-        "--load b --save c --seizure-wait 301 --senders first --repeat 8 --sockets 13-45 --record d \
-         --log e --tell f --control g --end 10",
+        "--load b --save c --seizure-wait 301 --senders first --repeat 8 --sockets 13-45 --log e \
+         --tell f --control g --end 10",
         TrunkOptions {
             session: SessionOptions {
                 load: Some("b"),
@@ -78,10 +77,6 @@ const TRUNKS: [(&str, TrunkOptions<'static>); 9] = [
                 repeat: 8,
             },
             sockets: Some((13, 45)),
-            record: Some(RecordOptions {
-                path: "d",
-                over: false,
-            }),
             log: Some("e"),
             tell: Some("f"),
             control: Some(ControlOptions {
@@ -98,16 +93,6 @@ const TRUNKS: [(&str, TrunkOptions<'static>); 9] = [
                 totals: true,
                 ..SESSION
             },
-            ..TRUNK
-        },
-    ),
-    (
-        "--record-over --record b",
-        TrunkOptions {
-            record: Some(RecordOptions {
-                path: "b",
-                over: true,
-            }),
             ..TRUNK
         },
     ),
@@ -209,31 +194,10 @@ const SESSIONS: [(&str, Request<'static>); 9] = [
                 senders: Senders::Peer,
                 repeat: 0,
             },
-            record: None,
         }),
     ),
     (
-        "serve --config a --record-over",
-        Request::Serve(ServeOptions {
-            session: SESSION,
-            ports: PORTS,
-            record: None,
-        }),
-    ),
-    (
-        "serve --config a --record b --record-over",
-        Request::Serve(ServeOptions {
-            session: SESSION,
-            ports: PORTS,
-            record: Some(RecordOptions {
-                path: "b",
-                over: true,
-            }),
-        }),
-    ),
-    (
-        "serve --config a --load b --save c --seizure-wait 501 --record d --senders host --repeat 7 \
-         --totals",
+        "serve --config a --load b --save c --seizure-wait 501 --senders host --repeat 7 --totals",
         Request::Serve(ServeOptions {
             session: SessionOptions {
                 config: "a",
@@ -246,10 +210,6 @@ const SESSIONS: [(&str, Request<'static>); 9] = [
                 senders: Senders::Host,
                 repeat: 7,
             },
-            record: Some(RecordOptions {
-                path: "d",
-                over: false,
-            }),
         }),
     ),
 ];

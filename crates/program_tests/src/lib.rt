@@ -4,4 +4,4 @@
 #[cfg(test)]
 mod gw_command_tests;
 #[cfg(test)]
-mod gw_machine_tests;
+mod gw_report_tests;

@@ -3,7 +3,7 @@
 ghost use Rattle.std.specs.Prelude.{◌≤◌};
 
 use gw_command::SatopOptions;
-use gw_machine::ProgramFault;
+use gw_report::ProgramFault;
 use gw_satop::Timing;
 use satop_playout::{FRAME, Settings};
 

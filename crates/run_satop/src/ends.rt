@@ -3,7 +3,7 @@
 ghost use Rattle.std.specs.Prelude.{◌≡◌, [], IfOk};
 
 use gw_command::SatopOptions;
-use gw_machine::ProgramFault;
+use gw_report::ProgramFault;
 use gw_satop::{SystemClock, WhenReady, open_input, open_socket};
 use gw_trunk::{FromDevice, ToDevice};
 use gw_udp::SystemSocket;

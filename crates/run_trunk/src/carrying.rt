@@ -12,7 +12,7 @@ use crate::opening::{Incoming, OpenTrunk};
 use crate::serving::serve_trunk;
 use e1_g711::Law;
 use gw_filter::Checked;
-use gw_machine::{tell_check, tell_discarded};
+use gw_report::{tell_check, tell_discarded};
 use gw_session::{Ports, RunFault, Tape, Totals, Watch};
 use gw_switch::Gateway;
 use gw_trunk::{

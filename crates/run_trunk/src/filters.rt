@@ -13,8 +13,8 @@ use gw_filter::{
     ToReports,
 };
 use gw_filtered::{FilteredInput, FilteredOutput, PhasedFilter, SwitchedFilter};
-use gw_machine::{ProgramFault, tell_live};
 use gw_records::NO_TOTALS;
+use gw_report::{ProgramFault, tell_live};
 use gw_session::FromRead;
 use gw_slots::{SlotDropper, SlotInput};
 use gw_switch::Gateway;

@@ -5,12 +5,12 @@ ghost use Rattle.run_trunk.specs.Opening.{IsFreshEnd, IsFreshTrunk};
 
 use crate::filters::{TrunkFilters, filters_as_asked};
 use gw_command::{ControlOptions, TrunkOptions};
-use gw_machine::{Machine, ProgramFault};
+use gw_report::ProgramFault;
 use gw_trunk::{FromDevice, ToDevice, WithClients, open_clients};
 use mio::net::UnixStream;
 use std::alloc::Global;
 use std::net::Net;
-use std::rt::{Stderr, Stdin, Stdout};
+use std::rt::{Files, Stderr, Stdin, Stdout};
 
 // The descriptors of standard input and output.
 const STDIN: i32 = 0;
@@ -47,7 +47,7 @@ fn open_alone(rt: &(impl Net + AllocGlobal), input: Stdin) -> Result<Incoming, P
 // Opens standard input and the socket of clients, and has the descriptor ask for the end of the trunk, if one
 // is named.
 fn open_with_clients(
-    rt: &impl Machine,
+    rt: &(impl Files + Net + AllocGlobal),
     input: Stdin,
     control: &ControlOptions<'_>,
 ) -> Result<Incoming, ProgramFault>
@@ -67,7 +67,7 @@ fn open_with_clients(
 
 // Opens standard input, and the socket of clients if one is named.
 fn open_incoming(
-    rt: &impl Machine,
+    rt: &(impl Files + Net + AllocGlobal),
     control: Option<ControlOptions<'_>>,
     input: Stdin,
 ) -> Result<Incoming, ProgramFault>
@@ -93,16 +93,18 @@ fn open_outgoing(
 }
 
 /// Opens the trunk at standard input and output, with the clients and the filters that the options ask for.
+/// What is printed while it is served goes to `errors`.
 ///
 /// # Errors
 ///
 /// [`ProgramFault::Control`] if the socket of clients can't be opened, [`ProgramFault::Trunk`] if a stream of
 /// the trunk or the descriptor of its end can't be waited for, [`ProgramFault::OutOfMemory`].
 pub fn open_trunk(
-    rt: &impl Machine,
+    rt: &(impl Files + Net + AllocGlobal),
     options: &TrunkOptions<'_>,
     input: Stdin,
     output: Stdout,
+    errors: Stderr,
 ) -> Result<OpenTrunk, ProgramFault>
     ensures { IfOk result IsFreshTrunk }
 {
@@ -113,7 +115,7 @@ pub fn open_trunk(
         incoming,
         outgoing,
         filters,
-        errors: rt.errors(),
+        errors,
         alloc: rt.alloc(),
     })
 }

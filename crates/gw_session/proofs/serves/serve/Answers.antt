@@ -1,4 +1,4 @@
 use Rattle.gw_session.proofs.serves.serve.Goals as goal
 
-pub returns : goal.returns
-returns g c = record { ok = c.serve_recorded.ensures.ok; fault = c.serve_recorded.ensures.fault }
+pub returns-clause-fault : goal.returns-clause-fault
+returns-clause-fault g c = rw c.none-held.ensures at c.serve_holding.ensures.fault
