@@ -1,22 +1,25 @@
 //! The filter `align`: a trunk at any bit offset to octets of its time slots (`align_stream`).
 
-ghost use Rattle.std.specs.Prelude.{◌≡◌, IfOk, IfErr};
-ghost use Rattle.g704_framing.specs.Replies.{stream_replies};
+ghost use Rattle.std.specs.Prelude.{◌≡◌, ◌++◌, ℕ, List, length, IfOk, IfErr};
+ghost use Rattle.g704_framing.specs.Replies.{replies_after, stream_replies};
 ghost use Rattle.g704_bits.specs.Standing.{StandsAfter};
 ghost use Rattle.gw_records.specs.Streams.{CanBegin};
 ghost use Rattle.gw_filter.specs.Align.{align_reply, Aligns, AlignsUntil};
 
-use crate::through::{BufferFilter, OctetFilter, filter_all, octets_through};
+use crate::through::{BufferFilter, octets_through};
 use g704_bits::BitAligner;
 use gw_records::{RunFault, Sink, Source, Totals};
 
-impl OctetFilter for BitAligner {
-    ghost has_taken = { StandsAfter };
-
-    ghost reply_after = { align_reply };
-
-    fn next_octet(&mut self, octet: u8) -> u8 {
-        self.octet(octet)
+/// Replaces the next octets of the stream by those of its time slots.
+pub fn align_all(aligner: &mut BitAligner, octets: &mut [u8])
+    ensures len { length octets.new ≡ length octets.old }
+    ensures replies { (history : List ℕ) → StandsAfter aligner.old history
+        → octets.new ≡ replies_after align_reply history octets.old }
+    ensures stands { (history : List ℕ) → StandsAfter aligner.old history
+        → StandsAfter aligner.new (history ++ octets.old) }
+{
+    for octet in octets.iter_mut() {
+        *octet = aligner.octet(*octet);
     }
 }
 
@@ -25,7 +28,7 @@ impl BufferFilter for BitAligner {
         × (returned ≡ stream_replies align_reply octets) };
 
     fn filter_buffer(&mut self, octets: &mut [u8]) {
-        filter_all(self, octets);
+        align_all(self, octets);
     }
 
     fn is_off(&self) -> bool {

@@ -8,8 +8,8 @@ mod sending;
 mod through;
 
 pub use checking::{Checked, ReportingChecker, crc4_check_stream};
-pub use filters::align_stream;
+pub use filters::{align_all, align_stream};
 pub use g704_crc4::ReceiverCounts;
 pub use reports::{CountsTeller, NoReports, ReportSink, ToReports};
 pub use sending::{ReportingSender, crc4_stream};
-pub use through::{BufferFilter, OctetFilter, filter_all, octets_through};
+pub use through::{BufferFilter, octets_through};

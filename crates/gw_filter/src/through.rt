@@ -1,7 +1,6 @@
-//! The traits of filters, and their one loop from a source to a sink (`octets_through`).
+//! The trait of filters, and their one loop from a source to a sink (`octets_through`).
 
-ghost use Rattle.std.specs.Prelude.{◌≡◌, ◌-◌, ◌^◌, ◌<◌, ◌∷◌, ◌++◌, ℕ, List, [], length, true, IfOk, IfErr};
-ghost use Rattle.g704_framing.specs.Replies.{replies_after};
+ghost use Rattle.std.specs.Prelude.{◌≡◌, ◌-◌, ◌^◌, ◌<◌, ◌++◌, ℕ, List, [], length, true, IfOk, IfErr};
 ghost use Rattle.gw_records.specs.Streams.{CanBegin, HadRoom};
 ghost use Rattle.gw_filter.specs.Filter.{Filters, FiltersUntil};
 
@@ -9,35 +8,6 @@ use gw_records::{MAX_READS, NO_TOTALS, RunFault, Sink, Source, Totals, read_behi
 
 // Room for each read: 32 KiB, an eighth of a second of the trunk.
 const BUFFER_LEN: usize = 32_768;
-
-/// Takes octets and returns one for each.
-pub trait OctetFilter {
-    /// The filter has taken these octets.
-    ghost has_taken: { Self → List ℕ → Type 0 };
-
-    /// The octet returned for the one after these.
-    ghost reply_after: { List ℕ → ℕ → ℕ };
-
-    /// Takes the next octet and returns one for it.
-    fn next_octet(&mut self, octet: u8) -> u8
-        ensures reply { (history : List ℕ) → has_taken self.old history
-            → result ≡ reply_after history octet }
-        ensures stands { (history : List ℕ) → has_taken self.old history
-            → has_taken self.new (history ++ octet ∷ []) };
-}
-
-/// Replaces the next octets of the stream by those that the filter returns.
-pub fn filter_all<F: OctetFilter>(filter: &mut F, octets: &mut [u8])
-    ensures len { length octets.new ≡ length octets.old }
-    ensures replies { (history : List ℕ) → F.has_taken filter.old history
-        → octets.new ≡ replies_after F.reply_after history octets.old }
-    ensures stands { (history : List ℕ) → F.has_taken filter.old history
-        → F.has_taken filter.new (history ++ octets.old) }
-{
-    for octet in octets.iter_mut() {
-        *octet = filter.next_octet(*octet);
-    }
-}
 
 /// Takes the octets of a buffer and returns as many for them.
 pub trait BufferFilter {

@@ -5,7 +5,7 @@ ghost use Rattle.std.specs.Prelude.{◌≡◌};
 use crate::pace::PlayClock;
 use crate::packet::{PacketFault, octets_to_play, packet_in};
 use g704_bits::BitAligner;
-use gw_filter::filter_all;
+use gw_filter::align_all;
 use satop_packet::Control;
 use satop_playout::laws::plays_give_octets;
 use satop_playout::{ArrivalFault, SatopPlayout, Settings};
@@ -174,7 +174,7 @@ impl Receiver {
     {
         plays_give_octets();
         let is_there = self.playout.play(room);
-        filter_all(&mut self.aligner, room);
+        align_all(&mut self.aligner, room);
         is_there
     }
 

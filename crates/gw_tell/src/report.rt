@@ -8,13 +8,10 @@ ghost use Rattle.gw_tell.specs.Reports.{are_due};
 ghost use Rattle.gw_tell.specs.Reports.{Changes, IsStatusOf, counts_lines, due_lines, told_line, row_lines};
 ghost use Rattle.gw_tell.specs.Reports.{whole_state};
 ghost use Rattle.gw_tell.specs.Counts.{counts_at, told_at};
-ghost use Rattle.gw_tell.specs.Lines.{event_line};
 
 use crate::counts::{DatagramCounts, set_told};
 use crate::gateway_status::{GatewayStatus, circuit};
-use crate::lines::{
-    hello_line, push_alarms, push_at, push_counts, push_event, push_row, push_seizures,
-};
+use crate::lines::{hello_line, push_alarms, push_at, push_counts, push_row, push_seizures};
 use crate::text::{Text, push};
 use e1_g711::Law;
 use g704_cas::CircuitNo;
@@ -134,28 +131,27 @@ pub fn place_after(place: u64, head: &RecordHead, body: &[u8]) -> u64
     }
 }
 
-/// Puts the lines of a record, which was answered with this code, behind a text. `place` is that before the
-/// record, `is` the state of the trunk after it, `told` what was reported last, and `counts` those of the
-/// datagrams.
+/// Whether counts are due behind a record of the trunk that began at one place and ended at another.
+pub fn are_due(before: u64, after: u64) -> bool
+    ensures { result ≡ are_due before after }
+{
+    before / COUNTS_EVERY < after / COUNTS_EVERY
+}
+
+/// Puts the lines of what has changed behind a text. `is` is the state of the trunk, `told` what was reported
+/// last, and `counts` those of the datagrams, which are told if they are due.
 #[inline(never)]
 pub fn report(
-    place: u64,
-    head: &RecordHead,
-    body: &[u8],
-    code: u8,
+    due: bool,
     told: &mut GatewayStatus,
     is: &GatewayStatus,
     counts: &mut [DatagramCounts; 30],
     text: &mut Text,
 )
-    requires { length text.old.items ≤ 24 }
-    ensures changes { Changes (are_due place (place_after place (named head.now body.now)))
-        told.old is.now told.new counts.old counts.new
-        (text.old.items ++ event_line (named head.now body.now) code) text.new.items }
+    requires { length text.old.items ≤ 138 }
+    ensures changes { Changes due told.old is.now told.new counts.old counts.new text.old.items text.new.items }
     ensures true_picture { IsStatusOf is.now told.new }
 {
-    let due = place / COUNTS_EVERY < place_after(place, head, body) / COUNTS_EVERY;
-    push_event(text, head, body, code);
     report_alarms(&mut told.alarms, &is.alarms, text);
     report_rows(due, &mut told.rows, &is.rows, text);
     report_counts(due, counts, text);

@@ -11,9 +11,9 @@ ghost use Rattle.gw_tell.specs.Clients.{Gets, IsOpen};
 use crate::backlog::Backlog;
 use crate::counts::{DatagramCounts, NO_COUNTS, count_datagram};
 use crate::gateway_status::GatewayStatus;
-use crate::lines::push_at;
+use crate::lines::{push_at, push_event};
 use crate::place::ClientSlot;
-use crate::report::{place_after, report, whole_state};
+use crate::report::{are_due, place_after, report, whole_state};
 use crate::seizures::count_seizures;
 use crate::text::Text;
 use e1_g711::Law;
@@ -158,16 +158,9 @@ impl Teller {
         self.text.clear();
         push_at(&mut self.text, at);
         let front = self.text.len();
-        report(
-            self.place,
-            head,
-            body,
-            code,
-            &mut self.told,
-            &is,
-            &mut self.counts,
-            &mut self.text,
-        );
+        push_event(&mut self.text, head, body, code);
+        let due = are_due(self.place, at);
+        report(due, &mut self.told, &is, &mut self.counts, &mut self.text);
         tell_all(&mut self.places, self.text.as_slice(), front, at);
         self.place = at;
     }

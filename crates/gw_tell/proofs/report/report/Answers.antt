@@ -5,11 +5,11 @@ pub returns-clause-changes : goal.returns-clause-changes
 returns-clause-changes c = record {
   between = c.report_alarms.new.text.items;
   behind = c.report_rows.new.text.items;
-  alarms = rw (← c.push_event.ensures.line) c.report_alarms.ensures.step;
+  alarms = c.report_alarms.ensures.step;
   alarms_are = c.report_alarms.ensures.told;
-  rows = rw (← c.place_after.ensures) c.report_rows.ensures.steps;
-  counts_are = rw (← c.place_after.ensures) c.report_counts.ensures.lines;
-  counts_told = rw (← c.place_after.ensures) c.report_counts.ensures.told;
+  rows = c.report_rows.ensures.steps;
+  counts_are = c.report_counts.ensures.lines;
+  counts_told = c.report_counts.ensures.told;
 }
 
 pub returns-clause-true_picture : goal.returns-clause-true_picture

@@ -6,8 +6,8 @@ use Rattle.gw_filter.proofs.filters.BitAlignerBufferFilter.filter_buffer.Goals a
 
 pub returns-clause-stands : goal.returns-clause-stands
 returns-clause-stands c taken returned s =
-    let e = c.filter_all.ensures in
-    let new = c.filter_all.new.octets in (
+    let e = c.align_all.ensures in
+    let new = c.align_all.new.octets in (
       e.stands taken s.0,
       ap (λ xs. xs ++ new) s.1 ∙ ap (λ xs. stream_replies align_reply taken ++ xs) (e.replies taken s.0)
           ∙ sym (replies-append align_reply [] taken _),

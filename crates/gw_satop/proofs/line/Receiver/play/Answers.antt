@@ -11,5 +11,5 @@ returns-clause-played c calls h =
       c.plays_give_octets.ensures.plays settings calls,
       replies-append align_reply [] (given_octets settings calls) (play_octets settings calls),
       ← c.play-is_there.ensures.octets settings calls h.playout,
-      ← c.filter_all.ensures.replies (given_octets settings calls) h.aligner,
+      ← c.align_all.ensures.replies (given_octets settings calls) h.aligner,
     ) refl
