@@ -149,7 +149,8 @@ pub fn report(
     text: &mut Text,
 )
     requires { length text.old.items ≤ 138 }
-    ensures changes { Changes due told.old is.now told.new counts.old counts.new text.old.items text.new.items }
+    ensures changes { Changes due told.old is.now told.new counts.old counts.new text.old.items
+        text.new.items }
     ensures true_picture { IsStatusOf is.now told.new }
 {
     report_alarms(&mut told.alarms, &is.alarms, text);
