@@ -32,7 +32,9 @@ fn two_and_two(rt: HostRuntime) {
 """
 PROVED = """# What is proved
 
-## `small`, a crate
+| crate | what its clauses say |
+|---|---|
+| `small` | a number is doubled |
 """
 
 
@@ -64,7 +66,7 @@ class Tree(FolderCase):
         self.write('crates/small/must-fail/three.edit', '')
         self.assertEqual([*self.docs.wrong_names(), *self.docs.wrong_heads()], [
             'crates/small: the wrong body three: its name is no sentence of words',
-            'docs/PROVED.md: no section of bare', 'crates/bare: no wrong body',
+            'docs/PROVED.md: no words on bare', 'crates/bare: no wrong body',
             'crates/bare/src/lib.rt: does not begin with a sentence'])
 
     def test_module_without_a_head(self) -> None:
