@@ -55,9 +55,9 @@ CALLS: dict[str, list[str]] = {
     'serve --config config --save new': [*READ_CONFIG, *UDP, 'run', *NEW_STATE],
     'serve --config config --senders peer': [*READ_CONFIG, *UDP, 'connect 127.0.0.1:far', 'run'],
     'trunk --config config': [*READ_CONFIG, *UDP, 'run'],
-    'trunk --config config --crc4 --align --slots 1-31': ['pair', *READ_CONFIG, *UDP, 'run'],
+    'trunk --config config --crc4 --align --slots 1-31': [*READ_CONFIG, *UDP, 'run'],
     'trunk --config config --log log --load old --save new --control control --tell tell --crc4':
-        [*LOCKED, *door('control'), 'pair', 'pair', *READ_CONFIG, *logged('RDONLY'), 'open old RDONLY',
+        [*LOCKED, *door('control'), 'pair', *READ_CONFIG, *logged('RDONLY'), 'open old RDONLY',
          *logged('RDONLY'), *logged('RDWR|CREAT'), *UDP, *door('tell'), 'run', *NEW_STATE],
     'satop 127.0.0.1:near 127.0.0.1:far': [*UDP, 'connect 127.0.0.1:far', 'run'],
 }

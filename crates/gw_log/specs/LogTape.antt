@@ -1,4 +1,4 @@
--- How the log of a trunk goes on (module `log_tape`).
+-- How the log of a trunk goes on (module `trunk_log`).
 use Rattle.std.specs.Prelude.{◌≡◌, Option}
 use Rattle.log_files.specs.Pairs.{Contents, PairState}
 use Rattle.log_files.specs.declared.loading.Loaded.{Loaded}

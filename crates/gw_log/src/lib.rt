@@ -13,7 +13,7 @@ mod trunk_log;
 
 pub use file_log::LogFault;
 pub use log_contents::{LogContents, PairOctets};
-pub use resuming::{Found, log_behind, resumed_of};
+pub use resuming::{Found, resumed_of};
 pub use room::fill_file;
 pub use state::loaded_of;
-pub use trunk_log::TrunkLog;
+pub use trunk_log::{TrunkLog, log_behind};

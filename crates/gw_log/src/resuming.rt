@@ -1,24 +1,20 @@
-//! How a gateway goes on from what a log has (`resumed_of`), and its log with it (`log_behind`).
+//! How a gateway goes on from what a log has (`resumed_of`).
 
 ghost use Rattle.std.specs.Prelude.{◌≡◌, ◌≢◌, ◌<◌, ◌^◌, IfOk, IfSome, OnOk, Some, None, length, true, false};
 ghost use Rattle.gw_state.specs.declared.loading.Loaded.{Loaded};
-ghost use Rattle.log_files.specs.Loading.{IsCounted, kept_of};
-ghost use Rattle.log_files.specs.Pairs.{Contents};
+ghost use Rattle.log_files.specs.Loading.{kept_of};
 ghost use Rattle.gw_log.specs.LogContents.{contents_of};
-ghost use Rattle.gw_log.specs.LogTape.{IsOpenedOver};
-ghost use Rattle.gw_log.specs.Logs.{IsUnused};
 ghost use Rattle.gw_log.specs.Resuming.{GoesOnWith, HaveSameCircuits, IsFromLog, IsReplayed, IsResumed};
-ghost use Rattle.gw_log.specs.Resuming.{AreNewFiles, IsFoundIn, WasGivenAll};
+ghost use Rattle.gw_log.specs.Resuming.{AreNewFiles, WasGivenAll};
 
 use crate::log_contents::LogContents;
 use crate::state::{load_trouble, loaded_of};
-use crate::trunk_log::TrunkLog;
 use gw_circuit::CircuitConfig;
 use gw_report::ProgramFault;
-use gw_session::{Nowhere, RunFault, Source, SourceFault, TrunkRecord, run};
+use gw_session::{Nowhere, RunFault, Source, SourceFault, run};
 use gw_state::{load_gateway, state_file};
 use gw_switch::{Gateway, GatewayConfig};
-use log_files::{KeptContents, Loaded, Pair, Store};
+use log_files::KeptContents;
 use std::alloc::Global;
 
 /// A gateway that goes on, and the configuration that it was kept with.
@@ -187,20 +183,4 @@ pub fn resumed_of(
         },
         None => Ok(None),
     }
-}
-
-/// The log of two pairs of files, behind what they have. Nothing is written yet.
-pub fn log_behind<S: Store>(
-    alloc: Global,
-    first: Pair<S>,
-    second: Pair<S>,
-    loaded: Option<Loaded<'_>>,
-    config: &GatewayConfig,
-    room: Box<TrunkRecord>,
-) -> TrunkLog<S>
-    requires { IfSome loaded IsCounted }
-    ensures unused { IsUnused config.now result }
-    ensures over { (one other : Contents) → IsFoundIn one other loaded.entry → IsOpenedOver one other result }
-{
-    TrunkLog::over(alloc, first, second, loaded, *config, room)
 }

@@ -2,11 +2,15 @@
 
 ghost use Rattle.std.specs.Prelude.{◌≡◌, ◌∷◌, [], false, true, IfErr, IfSome, OnOk};
 ghost use Rattle.log_files.specs.Loading.{IsCounted};
+ghost use Rattle.log_files.specs.Pairs.{Contents};
 ghost use Rattle.gw_records.specs.Records.{IsGood, named, spelled};
 ghost use Rattle.gw_session.specs.Answers.{events_of};
 ghost use Rattle.gw_session.specs.Running.{all_kinds};
 ghost use Rattle.gw_session.specs.Tape.{HasEnded, Learns, Recorded, WritesRecords};
 ghost use Rattle.gw_session.specs.Tape.{answers_at, keeps_at, sends_at};
+ghost use Rattle.gw_log.specs.LogTape.{IsOpenedOver};
+ghost use Rattle.gw_log.specs.Resuming.{IsFoundIn};
+ghost use Rattle.gw_log.specs.Logs.{IsUnused};
 ghost use Rattle.gw_log.specs.Logs.{Appended, Checkpointed, Shown, Uncheckpointed, files_over};
 ghost use Rattle.gw_log.specs.Logs.{place_after_kept, place_after_loaded, told_by};
 
@@ -192,4 +196,20 @@ impl<S: Store> Tape for TrunkLog<S> {
         ensures learns { Learns (told_by self.old) (told_by self.new) (answers_at (told_by self.old) ∷ []) }
         ensures same { self.new ≡ self.old }
     {}
+}
+
+/// The log of two pairs of files, behind what they have. Nothing is written yet.
+pub fn log_behind<S: Store>(
+    alloc: Global,
+    first: Pair<S>,
+    second: Pair<S>,
+    loaded: Option<Loaded<'_>>,
+    config: &GatewayConfig,
+    room: Box<TrunkRecord>,
+) -> TrunkLog<S>
+    requires { IfSome loaded IsCounted }
+    ensures unused { IsUnused config.now result }
+    ensures over { (one other : Contents) → IsFoundIn one other loaded.entry → IsOpenedOver one other result }
+{
+    TrunkLog::over(alloc, first, second, loaded, *config, room)
 }

@@ -48,6 +48,8 @@ pub struct Clients {
     descriptor: i32,
     // Whether the descriptor can be waited for: a regular file can't be, and never has to be.
     is_waited_for: bool,
+    // Whether a read may give a block of what has come: then the system is asked anew before each wait.
+    gives_blocks: bool,
     // Whether octets may have come from it since it was read.
     octets: bool,
     // Whether the last read took all octets that had come.
@@ -210,11 +212,13 @@ fn place_for_one<S: ClientStream>(places: &[Option<Client<S>>; 8]) -> Option<usi
 }
 
 impl Clients {
-    /// Clients who connect to `door`, with none yet, and what a descriptor waits with them. The answers to
-    /// them come from `answers`, which never waits. The error is the system's.
+    /// Clients who connect to `door`, with none yet, and what a descriptor waits with them, of which a read
+    /// may give a block. The answers to them come from `answers`, which never waits. The error is the
+    /// system's.
     pub fn open(
         rt: &(impl Net + AllocGlobal),
         descriptor: i32,
+        gives_blocks: bool,
         mut door: UnixListener,
         answers: UnixStream,
     ) -> io::Result<Clients> {
@@ -227,6 +231,7 @@ impl Clients {
             poller,
             descriptor,
             is_waited_for,
+            gives_blocks,
             octets: false,
             is_drained: false,
             is_refused: false,
@@ -277,7 +282,11 @@ impl Clients {
         requires knocks { self.old.knocks ≡ false }
         requires clients { list_all is_quiet self.old.places ≡ true }
     {
-        self.look_anew(None);
+        if self.gives_blocks {
+            self.look_anew(None);
+        } else {
+            self.look(None);
+        }
     }
 
     /// Waits until something may have come, for the trunk or from a client. It does not wait if an event has

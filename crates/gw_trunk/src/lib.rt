@@ -27,4 +27,4 @@ pub use readiness::Poller;
 pub use sink::{TrunkAnswers, TrunkRecordSink};
 pub use source::{TrunkRecordSource, TrunkRecords};
 pub use waiting::Waiting;
-pub use with_clients::{WithClients, open_clients, open_pair};
+pub use with_clients::{WithClients, open_clients};

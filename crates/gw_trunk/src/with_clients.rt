@@ -44,18 +44,20 @@ pub struct WithClients<R: Read> {
 }
 
 impl<R: Read + Drop> WithClients<R> {
-    /// What comes from the reader, whose descriptor this is, and from those who connect to `door`. The
-    /// answers to them come from `answers`, which never waits. The error is the system's.
+    /// What comes from the reader, whose descriptor this is and of which a read may give a block, and from
+    /// those who connect to `door`. The answers to them come from `answers`, which never waits. The error is
+    /// the system's.
     pub fn open(
         rt: &(impl Net + AllocGlobal),
         reader: R,
         descriptor: i32,
+        gives_blocks: bool,
         door: UnixListener,
         answers: UnixStream,
     ) -> io::Result<WithClients<R>>
         ensures begins { IfOk result (λ d. BeginsTrunk reader d.reader d.asked.octets d.ended) }
     {
-        let clients = Clients::open(rt, descriptor, door, answers)?;
+        let clients = Clients::open(rt, descriptor, gives_blocks, door, answers)?;
         Ok(WithClients {
             reader: LoggedReader::new(reader),
             clients,
@@ -79,26 +81,23 @@ impl<R: Read + Drop> WithClients<R> {
     }
 }
 
-/// Two connections, each the other's end, whose calls never wait. The error is the system's.
-pub fn open_pair(rt: &impl Net) -> io::Result<(UnixStream, UnixStream)> {
-    UnixStream::pair(rt)
-}
-
 /// What comes from the reader, whose descriptor this is, and from the clients of the Unix socket at a path;
-/// and what takes the answers to them. An old socket there at which nobody listens is replaced. The error is
-/// the system's.
+/// and what takes the answers to them. `gives_blocks` says whether a read gives a block, though more may have
+/// come, as of a card; of a pipe or a socket it gives all, up to its room. An old socket there at which nobody
+/// listens is replaced. The error is the system's.
 pub fn open_clients<R: Read + Drop>(
     rt: &(impl Files + Net + AllocGlobal),
     reader: R,
     descriptor: i32,
+    gives_blocks: bool,
     path: &str,
 ) -> io::Result<(WithClients<R>, ToDevice<UnixStream>)>
     ensures begins { IfOk result (λ both. BeginsTrunk reader both.0.reader both.0.asked.octets both.0.ended) }
     ensures answers { IfOk result (λ both. both.1.log.octets ≡ []) }
 {
     let door = open_door(rt, path)?;
-    let (near, far) = open_pair(rt)?;
-    let incoming = WithClients::open(rt, reader, descriptor, door, near)?;
+    let (near, far) = UnixStream::pair(rt)?;
+    let incoming = WithClients::open(rt, reader, descriptor, gives_blocks, door, near)?;
     let end = far.as_raw_fd();
     let answers = ToDevice::open(rt, far, end)?;
     Ok((incoming, answers))

@@ -149,7 +149,7 @@ const TRUNKS: [(&str, TrunkOptions<'static>); 8] = [
 ];
 
 // Sessions that are no trunk.
-const SESSIONS: [(&str, Request<'static>); 9] = [
+const SESSIONS: [(&str, Request<'static>); 7] = [
     ("check --config a", Request::Check(SESSION)),
     (
         "check --config a --load b --seizure-wait 8000",

@@ -6,8 +6,8 @@ ghost use Rattle.gw_satop.specs.Session.{HasNoTraffic};
 use crate::asked::{CircuitAsked, circuit_asked};
 use crate::ends::{open_clock, open_far_end, open_stdin, open_stdout};
 use gw_command::SatopOptions;
-use gw_report::ProgramFault;
 use gw_records::{NO_TOTALS, RunFault, Totals};
+use gw_report::ProgramFault;
 use gw_satop::{
     PlayClock, Receiver, SatopCircuit, Sender, SenderSettings, SystemClock, UdpPeer, carry_satop,
 };

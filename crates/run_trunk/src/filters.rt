@@ -5,29 +5,27 @@ ghost use Rattle.g704_bits.specs.Standing.{StandsAfter};
 ghost use Rattle.gw_filter.specs.Check.{HasReported};
 ghost use Rattle.run_trunk.specs.Filters.{AreFresh, AreUnused, Comes, Goes, GoesFramed, both_ended};
 
+use crate::reports::{ReportsIn, ReportsOut, open_reports};
 use e1_g711::Law;
 use g704_bits::BitAligner;
 use gw_command::FilterOptions;
 use gw_filter::{
     BufferFilter, Checked, CountsTeller, ReceiverCounts, ReportingChecker, ReportingSender,
-    ToReports,
 };
 use gw_filtered::{FilteredInput, FilteredOutput, PhasedFilter, SwitchedFilter};
 use gw_records::NO_TOTALS;
 use gw_report::{ProgramFault, tell_live};
-use gw_session::FromRead;
 use gw_slots::{SlotDropper, SlotInput};
 use gw_switch::Gateway;
-use gw_trunk::{DeviceFault, MultiframeDropper, TrunkInput, TrunkOutput, open_pair};
-use mio::net::UnixStream;
-use std::net::Net;
+use gw_trunk::{DeviceFault, MultiframeDropper, TrunkInput, TrunkOutput};
+use std::alloc::Global;
 use std::rt::Stderr;
 
 /// Checks the CRC-4 multiframes of what comes, and reports errored ones to the sender.
-pub(crate) type Checker = ReportingChecker<ToReports<UnixStream>, PrintedCounts>;
+pub(crate) type Checker = ReportingChecker<ReportsOut, PrintedCounts>;
 
 /// Puts CRC-4 multiframes into what goes, from a place in a multiframe on.
-pub(crate) type Sender = PhasedFilter<ReportingSender<FromRead<UnixStream>>>;
+pub(crate) type Sender = PhasedFilter<ReportingSender<ReportsIn>>;
 
 /// Prints the counts of a checker on standard error, if that is asked for.
 #[derive(Drop)]
@@ -63,8 +61,8 @@ pub(crate) type Outgoing<O> = MultiframeDropper<Framed<O>, Stderr>;
 /// Where the reports of a checker go, and what they come from for the sender.
 #[derive(Drop)]
 pub(crate) struct Crc4 {
-    pub(crate) outward: ToReports<UnixStream>,
-    pub(crate) reports: FromRead<UnixStream>,
+    pub(crate) outward: ReportsOut,
+    pub(crate) reports: ReportsIn,
 }
 
 /// The filters of a trunk that are asked for, through which nothing has passed.
@@ -88,40 +86,27 @@ fn aligner_if(is_asked: bool) -> Option<BitAligner>
     None
 }
 
-// Two connections that are joined, one for reports to go and one for them to come.
-fn open_crc4(rt: &impl Net) -> Result<Crc4, ProgramFault>
-    ensures { IfOk result AreUnused }
-{
-    match open_pair(rt) {
-        Ok((near, far)) => Ok(Crc4 {
-            outward: ToReports::new(near),
-            reports: FromRead::new(far),
-        }),
-        Err(error) => Err(ProgramFault::of(&error, ProgramFault::Trunk)),
-    }
-}
-
-// Where reports go and come from, if CRC-4 is asked for.
-fn crc4_if(rt: &impl Net, is_asked: bool) -> Result<Option<Crc4>, ProgramFault>
+// Where reports go and come from, if CRC-4 is asked for. The error is that memory was refused.
+fn crc4_if(alloc: Global, is_asked: bool) -> Result<Option<Crc4>, ProgramFault>
     ensures { IfOk result (λ c. IfSome c AreUnused) }
 {
     if !is_asked {
         return Ok(None);
     }
-    match open_crc4(rt) {
-        Ok(crc4) => Ok(Some(crc4)),
-        Err(fault) => Err(fault),
+    match open_reports(alloc) {
+        Ok((outward, reports)) => Ok(Some(Crc4 { outward, reports })),
+        Err(_) => Err(ProgramFault::OutOfMemory),
     }
 }
 
 /// The filters that the options ask for.
 pub(crate) fn filters_as_asked(
-    rt: &impl Net,
+    alloc: Global,
     options: FilterOptions,
 ) -> Result<TrunkFilters, ProgramFault>
     ensures { IfOk result AreFresh }
 {
-    match crc4_if(rt, options.crc4) {
+    match crc4_if(alloc, options.crc4) {
         Ok(crc4) => Ok(TrunkFilters {
             slots: options.slots,
             live: options.live,
@@ -133,9 +118,7 @@ pub(crate) fn filters_as_asked(
 }
 
 /// Where reports go and where they come from, if they do.
-pub(crate) fn parted(
-    crc4: Option<Crc4>,
-) -> (Option<ToReports<UnixStream>>, Option<FromRead<UnixStream>>)
+pub(crate) fn parted(crc4: Option<Crc4>) -> (Option<ReportsOut>, Option<ReportsIn>)
     ensures outward { result.0 ≡ option_map (λ c. c.outward) crc4 }
     ensures reports { result.1 ≡ option_map (λ c. c.reports) crc4 }
 {
@@ -149,7 +132,7 @@ pub(crate) fn parted(
 pub(crate) fn checker_from(
     errors: Stderr,
     is_live: bool,
-    outward: Option<ToReports<UnixStream>>,
+    outward: Option<ReportsOut>,
 ) -> Option<Checker>
     requires { IfSome outward (λ o. o.log.octets ≡ []) }
     ensures is { is_some result ≡ is_some outward }
@@ -201,7 +184,7 @@ pub(crate) fn filtered_input<I: TrunkInput>(
 }
 
 // The sender of what goes, from the gateway's place in a multiframe on.
-fn sender_from(reports: Option<FromRead<UnixStream>>, gateway: &Gateway) -> Option<Sender>
+fn sender_from(reports: Option<ReportsIn>, gateway: &Gateway) -> Option<Sender>
     requires { IfSome reports (λ r. r.log.octets ≡ []) }
     ensures is { is_some result ≡ is_some reports }
     ensures place { IfSome result (λ s. s.place.value ≡ gateway.now.trunk.position % 512) }
@@ -221,7 +204,7 @@ fn sender_from(reports: Option<FromRead<UnixStream>>, gateway: &Gateway) -> Opti
 pub(crate) fn framed_output<O: TrunkOutput>(
     outgoing: O,
     slots: bool,
-    reports: Option<FromRead<UnixStream>>,
+    reports: Option<ReportsIn>,
     gateway: &Gateway,
 ) -> Framed<O>
     requires went { O.went outgoing ≡ [] }

@@ -4,6 +4,7 @@
 mod carrying;
 mod filters;
 mod opening;
+mod reports;
 mod serving;
 
 pub use carrying::{TrunkEnd, serve};

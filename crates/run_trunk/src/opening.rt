@@ -9,7 +9,9 @@ use gw_report::ProgramFault;
 use gw_trunk::{FromDevice, ToDevice, WithClients, open_clients};
 use mio::net::UnixStream;
 use std::alloc::Global;
+use std::fs;
 use std::net::Net;
+use std::os::unix::fs::FileTypeExt;
 use std::rt::{Files, Stderr, Stdin, Stdout};
 
 // The descriptors of standard input and output.
@@ -44,6 +46,14 @@ fn open_alone(rt: &(impl Net + AllocGlobal), input: Stdin) -> Result<Incoming, P
     }
 }
 
+// Whether a read of standard input may give a block of what has come: it is a device, or nobody knows.
+fn gives_blocks(rt: &impl Files) -> bool {
+    match fs::metadata(rt, "/dev/stdin") {
+        Ok(found) => found.file_type().is_char_device(),
+        Err(_) => true,
+    }
+}
+
 // Opens standard input and the socket of clients, and has the descriptor ask for the end of the trunk, if one
 // is named.
 fn open_with_clients(
@@ -53,7 +63,13 @@ fn open_with_clients(
 ) -> Result<Incoming, ProgramFault>
     ensures { IfOk result IsFreshEnd }
 {
-    let (mut incoming, answers) = match open_clients(rt, input, STDIN, control.path) {
+    let (mut incoming, answers) = match open_clients(
+        rt,
+        input,
+        STDIN,
+        gives_blocks(rt),
+        control.path,
+    ) {
         Ok(both) => both,
         Err(error) => return Err(ProgramFault::of(&error, ProgramFault::Control)),
     };
@@ -110,7 +126,7 @@ pub fn open_trunk(
 {
     let incoming = open_incoming(rt, options.control, input)?;
     let outgoing = open_outgoing(rt, output)?;
-    let filters = filters_as_asked(rt, options.filters)?;
+    let filters = filters_as_asked(rt.alloc(), options.filters)?;
     Ok(OpenTrunk {
         incoming,
         outgoing,
