@@ -30,6 +30,10 @@ const MOST_KNOCKS: usize = 8;
 // How long it is waited for a device that gives none of what has come.
 const A_MOMENT_MS: u64 = 1;
 
+// How long it is waited before the system is asked anew what came before: of a pipe that was closed behind its
+// last octets it reports both at once.
+const A_WHILE_MS: u64 = 20;
+
 // The longest answer to a record of a client.
 const ANSWER_LEN: usize = 64;
 
@@ -48,7 +52,8 @@ pub struct Clients {
     descriptor: i32,
     // Whether the descriptor can be waited for: a regular file can't be, and never has to be.
     is_waited_for: bool,
-    // Whether a read may give a block of what has come: then the system is asked anew before each wait.
+    // Whether a read may give a block of what has come: then the system is asked anew before each wait, and
+    // else only behind a while.
     gives_blocks: bool,
     // Whether octets may have come from it since it was read.
     octets: bool,
@@ -282,11 +287,13 @@ impl Clients {
         requires knocks { self.old.knocks ≡ false }
         requires clients { list_all is_quiet self.old.places ≡ true }
     {
-        if self.gives_blocks {
-            self.look_anew(None);
-        } else {
-            self.look(None);
+        if !self.gives_blocks {
+            self.look(Some(Duration::from_millis(A_WHILE_MS)));
+            if !self.poller.events.is_empty() {
+                return;
+            }
         }
+        self.look_anew(None);
     }
 
     /// Waits until something may have come, for the trunk or from a client. It does not wait if an event has
