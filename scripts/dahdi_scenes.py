@@ -22,7 +22,7 @@ from dahdi_talk import Talk, figures
 from e1gw.card_opening import open_device
 from e1gw.dahdi import Alarm, Blocks
 from e1gw.events import CardAlarm, CardAlarmChanged
-from e1gw.lines import UNKNOWN
+from e1gw_common.lines import UNKNOWN
 from e1gw.testing.openr2 import OpenR2
 from e1gw.testing.service import ask
 

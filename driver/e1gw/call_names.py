@@ -12,8 +12,8 @@ import secrets
 from dataclasses import astuple
 from typing import Mapping
 
-from .lines import IN_CALL, Line, LineCounts
-from .writers import put_file
+from e1gw_common.lines import IN_CALL, Line, LineCounts
+from e1gw_common.writers import put_file
 
 Seizures = dict[int, int]       # by circuit
 

@@ -10,9 +10,9 @@ from dataclasses import dataclass, replace
 from itertools import takewhile
 from typing import Callable, Iterable, Iterator, Mapping, NamedTuple
 
+from e1gw_common.lines import IN_CALL, Line, LineCounts, Role, State
 from .counts import DatagramCounts, PacketsNote
 from .events import LineChanged
-from .lines import IN_CALL, Line, LineCounts, Role, State
 
 MOST_OCTETS = 10 << 20      # of a file, before it is FILE.1
 KEPT = 9                    # FILE.1 to FILE.9

@@ -8,8 +8,8 @@ import os
 import stat
 from contextlib import suppress
 
+from e1gw_common.fault_words import name_of_process, named, words_of_fault
 from .dahdi import Blocks, CardFault, DahdiChannel, is_channel
-from .fault_words import name_of_process, named, words_of_fault
 from .trunks import Stream, open_files
 
 FOLDER = '/dev/dahdi/'                  # of DAHDI's devices, with its driver and without

@@ -10,7 +10,7 @@ from collections import deque
 from dataclasses import dataclass
 from typing import Any
 
-from .session import OCTETS_A_SECOND
+from e1gw_common.session import OCTETS_A_SECOND
 
 TICK = 0.08                 # seconds between two looks
 WINDOW = 2                  # looks over which the flow has to be steady

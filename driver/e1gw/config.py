@@ -22,11 +22,11 @@ import sys
 from collections.abc import Iterator, Mapping
 from dataclasses import dataclass, replace
 
-from .config_faults import CODECS, ConfigFault, check, read_octets, refusal_of, socket_faults
+from e1gw_common.config_faults import CODECS, ConfigFault, check, read_octets, refusal_of, socket_faults
+from e1gw_common.faults import Parser, number, words_of_fault
+from e1gw_common.lines import no_peers
+from e1gw_common.session import CIRCUITS
 from .config_ports import EXAMPLE, NamedPorts, addresses_of, is_bound, trunks_in
-from .faults import Parser, number, words_of_fault
-from .lines import no_peers
-from .session import CIRCUITS
 
 FIRST, APART, TRUNKS = 24_002, 100, 64      # ports of a trunk: for each circuit one for RTP and the next one unused
 SAME_HOST = 10_000                          # ports between the two ends of a tie on one machine

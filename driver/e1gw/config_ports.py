@@ -10,7 +10,7 @@ from contextlib import suppress
 from dataclasses import dataclass
 from typing import Any
 
-from .config_faults import ConfigFault, check, read_octets
+from e1gw_common.config_faults import ConfigFault, check, read_octets
 
 EXAMPLE = 'example'         # of the package: no unit has that name, so its ports are free
 HTTP = re.compile(r'--http[ =]\S*:(\d+)')

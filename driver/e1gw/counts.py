@@ -5,8 +5,8 @@ from dataclasses import dataclass, field, replace
 from operator import add, sub
 from typing import Any, Callable
 
-from .lost import ReceivedNumbers
-from .session import CIRCUITS, HEAD, DatagramRefusal, Kind
+from e1gw_common.lost import ReceivedNumbers
+from e1gw_common.session import CIRCUITS, HEAD, DatagramRefusal, Kind
 
 REASONS = (*DatagramRefusal,)       # why datagrams are refused, in the order of a line `counts` (e1gw-tell(5))
 NONE_REFUSED = (0,) * len(REASONS)

@@ -31,13 +31,13 @@ import time
 from pathlib import Path
 from typing import BinaryIO
 
+from e1gw_common.faults import Parser, checked, number, words_of_fault
+from e1gw_common.session import CIRCUITS, circuit_of
+from e1gw_common.session_clock import local_second
 from .ctl_all import PATIENCE, SOCKETS, answer_to, connected, overview, status_of, trunks_here
 from .ctl_calls import OutageForm, Wanted, calls_listed, outages_listed
 from .ctl_codec import save_codecs
 from .ctl_wait import STATES, AwaitedState, wait
-from .faults import Parser, checked, number, words_of_fault
-from .session import CIRCUITS, circuit_of
-from .session_clock import local_second
 
 ASKING = ('status', 'events', 'help', 'metrics', 'role')
 SEVERAL = ('seize', 'clear', 'answer', 'clear-back', 'block', 'unblock', 'codec')

@@ -9,12 +9,12 @@ from itertools import islice, takewhile
 from math import inf
 from typing import Any, Iterable, Iterator, Mapping
 
+from e1gw_common.session_clock import second_of
 from .call_sums import CallSums, sums_of
 from .calls import FIELDS as FIELDS_OF_CALLS, CallLine, csv_line, files_of, read_calls
 from .ctl_all import each_status
 from .deaf import words_of_call
 from .outages import FIELDS, outages_in
-from .session_clock import second_of
 from .watcher.page import length, outages_page
 
 LAST = 20                   # calls that have ended, if nothing else is asked for

@@ -5,7 +5,7 @@ import re
 import tomllib
 from typing import Collection
 
-from .lines import lines_of
+from e1gw_common.lines import lines_of
 
 
 def with_codec(text: str, circuit: int, codec: str, payload: int) -> str:

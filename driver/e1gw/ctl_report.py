@@ -13,11 +13,11 @@ from itertools import islice
 from pathlib import Path
 from typing import Any, Iterator, Mapping
 
+from e1gw_common.faults import words_of_fault
 from . import VERSION
 from .addresses import HiddenAddresses
 from .calls import FIELDS, csv_line, read_calls
 from .ctl_all import UNITS, status_of
-from .faults import words_of_fault
 from .metrics import table
 
 CALLS, LINES = 200, 2000    # of the last calls, and of the journal

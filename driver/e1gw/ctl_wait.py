@@ -5,9 +5,9 @@ import time
 from dataclasses import dataclass
 from typing import Any, Callable, Collection, Mapping
 
+from e1gw_common.faults import words_of_fault
+from e1gw_common.lines import State, circuit_words
 from .ctl_all import status_of
-from .faults import words_of_fault
-from .lines import State, circuit_words
 from .metrics import states_of
 
 LOOK = 0.5                  # seconds between two looks

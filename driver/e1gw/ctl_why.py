@@ -3,9 +3,9 @@ from __future__ import annotations
 
 from typing import Any, Iterable, Mapping
 
+from e1gw_common.session_files import InputError
 from .ctl_all import each_status
 from .picture.why import finding_lines, last_facts
-from .session_files import InputError
 
 
 def why(trunks: Iterable[tuple[str, str]], circuit: int, patience: float) -> int:

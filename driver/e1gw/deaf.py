@@ -5,12 +5,12 @@ from dataclasses import dataclass, replace
 from operator import itemgetter, sub
 from typing import Iterable, Mapping
 
+from e1gw_common.lines import circuit_words
+from e1gw_common.session import OCTETS_A_SECOND, DatagramRefusal
+from e1gw_common.session_clock import second_of
 from .calls import CallLine
 from .counts import REASONS, ToldCounts
 from .events import CallsDeaf, Tell
-from .lines import circuit_words
-from .session import OCTETS_A_SECOND, DatagramRefusal
-from .session_clock import second_of
 
 DEAF_AFTER = 2 * OCTETS_A_SECOND        # octets of the trunk
 HEARS_NOTHING, NO_PACKETS = 'hears nothing', 'no packets'

@@ -6,7 +6,7 @@ from dataclasses import dataclass, fields
 from enum import Enum, StrEnum
 from typing import Callable, ClassVar, Iterable, Mapping, NamedTuple
 
-from .lines import Alignment, Role, State, circuit_words
+from e1gw_common.lines import Alignment, Role, State, circuit_words
 
 
 class Level(Enum):

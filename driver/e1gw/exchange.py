@@ -2,7 +2,7 @@
 import subprocess
 from typing import Any, NoReturn
 
-from .session import FRAME, HEAD, MULTIFRAME, Command, Kind, command_record, trunk_record
+from e1gw_common.session import FRAME, HEAD, MULTIFRAME, Command, Kind, command_record, trunk_record
 
 FAS, NFAS = 0x9B, 0xDF      # slot 0: the frame alignment signal, and the octet between two of them
 REMOTE_ALARM = 0x20         # bit A of the octet between two signals

@@ -10,7 +10,7 @@ from contextlib import suppress
 from dataclasses import dataclass
 from typing import Mapping
 
-from .writers import write_at
+from e1gw_common.writers import write_at
 
 STATES, RECORDS, LOCK = ('state.0', 'state.1'), ('records.0', 'records.1'), 'lock'
 STATE_ROOM, RECORDS_ROOM = 256 << 10, 8 << 20           # octets of the files

@@ -3,7 +3,7 @@ from __future__ import annotations
 
 import os
 
-from .writers import write_all
+from e1gw_common.writers import write_all
 
 
 def in_memory(octets: bytes) -> int:

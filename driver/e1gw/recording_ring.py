@@ -11,10 +11,10 @@ from concurrent.futures import ThreadPoolExecutor
 from contextlib import suppress
 from typing import Any, Iterable, Sequence
 
+from e1gw_common.session import OCTETS_A_SECOND
+from e1gw_common.session_files import by_time, read_object
+from e1gw_common.writers import put_file
 from .priority import run_last
-from .session import OCTETS_A_SECOND
-from .session_files import by_time, read_object
-from .writers import put_file
 
 UNITS = {'s': 1, 'm': 60, 'h': 3600, 'd': 86400}
 FILES = 12                  # the number of files into which the time that is kept is cut

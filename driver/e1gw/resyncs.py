@@ -13,8 +13,8 @@ from dataclasses import dataclass, field
 from math import inf
 from typing import Callable, Iterable
 
+from e1gw_common.session import OCTETS_A_SECOND, DatagramRefusal
 from .events import BuffersRestarted, Tell
-from .session import OCTETS_A_SECOND, DatagramRefusal
 
 REFUSED_FOR = 0.5           # seconds of the trunk whose datagrams are looked at
 FEWEST = 3                  # refused datagrams in them

@@ -17,15 +17,15 @@ from dataclasses import dataclass
 from importlib import import_module
 from typing import Any, Callable, Iterable, Mapping, Sequence
 
-from .config_faults import config_words
-from .fault_words import words_of_fault
+from e1gw_common.config_faults import config_words
+from e1gw_common.fault_words import words_of_fault
+from e1gw_common.lines import IN_CALL, circuit_words, config_text, lines_of, no_peers, tables_of
+from e1gw_common.session import CIRCUITS
+from e1gw_common.writers import put_file
 from .holder.log import remove
 from .holder.version import NOT_PROVED, Tried, tried_in
-from .lines import IN_CALL, circuit_words, config_text, lines_of, no_peers, tables_of
 from .log_folder import LogFiles, LogPair, LogWriter
 from .memory import in_memory
-from .session import CIRCUITS
-from .writers import put_file
 
 MOST_OCTETS = 65_536        # of a configuration
 MOST_ENDED = 3              # calls that a reload may end without force

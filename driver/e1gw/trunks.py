@@ -5,7 +5,7 @@ import os
 import socket
 import tty
 
-from .fault_words import named
+from e1gw_common.fault_words import named
 
 
 class Stream:

@@ -3,7 +3,7 @@ from __future__ import annotations
 
 from typing import Any, Iterable, Iterator, Mapping
 
-from .lines import Line
+from e1gw_common.lines import Line
 
 TABLES = ('/proc/self/net/udp', '/proc/self/net/udp6')
 PIECE = 1 << 16

@@ -31,7 +31,7 @@ LIMITS: dict[str, Any] = {
     'watcher.standby.MOST_AGE': LONG, 'watcher.recordings.FLUSH': LONG, 'watcher.pair.GRACE': LONG,
     'watcher.connection.NEXT': LONG, 'watcher.pages.SECONDS': LONG,
     'watcher.pages.EVERY': 0.0,
-    'programs.PATIENCE': LONG, 'writers.OPENS': LONG,
+    'e1gw_common.programs.PATIENCE': LONG, 'e1gw_common.writers.OPENS': LONG,
     'watcher.door.PATIENCE': LONG, 'watcher.main.GRACE': LONG,
     'watcher.events.FLUSH': LONG, 'watcher.journal.FLUSH': LONG, 'watcher.blocks.PATIENCE': LONG,
     # (A process that gets what others leave gets next to nothing on a loaded machine.)
@@ -44,11 +44,17 @@ def around(limits: Mapping[str, Any]) -> dict[str, str]:
     return {GIVEN: json.dumps(limits)} if limits else {}
 
 
+def place_of(path: str) -> tuple[str, str]:
+    """The module of a limit, and its name there; the module is one of e1gw unless it names its package."""
+    name, _, limit = path.rpartition('.')
+    return name if name.startswith('e1gw_') else f'e1gw.{name}', limit
+
+
 def put(limits: Mapping[str, Any]) -> None:
     """Sets these limits in the modules that are there."""
     for path, value in limits.items():
-        name, _, limit = path.rpartition('.')
-        if module := sys.modules.get(f'e1gw.{name}'):
+        name, limit = place_of(path)
+        if module := sys.modules.get(name):
             assert hasattr(module, limit), path
             setattr(module, limit, value)
 
@@ -61,12 +67,12 @@ def put_given() -> None:
 def put_here() -> None:
     """Sets all of them in this process. A module that has imported one of another module has it by itself."""
     for path in LIMITS:
-        importlib.import_module(f'e1gw.{path.rpartition(".")[0]}')
+        importlib.import_module(place_of(path)[0])
     for path in LIMITS:
-        name, _, limit = path.rpartition('.')
-        value = getattr(sys.modules[f'e1gw.{name}'], limit)
+        name, limit = place_of(path)
+        value = getattr(sys.modules[name], limit)
         has = {f'{each.removeprefix("e1gw.")}.{limit}' for each, module in sys.modules.items()
-               if each.startswith('e1gw.') and getattr(module, limit, None) is value}
+               if each.startswith(('e1gw.', 'e1gw_')) and getattr(module, limit, None) is value}
         assert has <= {*LIMITS}, has
         USUAL[path] = value
     put(LIMITS)

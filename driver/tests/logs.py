@@ -4,7 +4,7 @@ from __future__ import annotations
 import unittest
 
 from e1gw.log_folder import FolderReader, LogBegun, LogFiles, LogPiece, LogWriter, NoRoom
-from e1gw.session import MULTIFRAME, trunk_record
+from e1gw_common.session import MULTIFRAME, trunk_record
 
 
 class WrittenLog:

@@ -18,12 +18,12 @@ from dataclasses import dataclass, field, replace
 from .support import TOP, Exchange, config_text, program, run
 
 from e1gw.exchange import ACKNOWLEDGED, ANSWERED, IDLE
-from e1gw.g711 import TONES, VALUES
+from e1gw_common.g711 import TONES, VALUES
 from e1gw.picture.facts import Facts
 from e1gw.picture.reading import SessionReading, rows_of
 from e1gw.picture.replay import Replay
-from e1gw.session import (OCTETS_A_SECOND, Command, Kind, Packet, command_record, datagram_record, records_in,
-                          trunk_record)
+from e1gw_common.session import (OCTETS_A_SECOND, Command, Kind, Packet, command_record, datagram_record, records_in,
+                                 trunk_record)
 
 COMMAND = os.path.join(TOP, 'bin', 'e1gw-picture')
 PROGRESS = re.compile('.* of the trunk read.*; it goes on\n')    # (on a slow machine)

@@ -24,7 +24,7 @@ from . import limits
 from .start import PROGRAM
 from e1gw.__main__ import COMMANDS
 from e1gw.exchange import Exchange
-from e1gw.session import Kind, records_in
+from e1gw_common.session import Kind, records_in
 from e1gw.testing import service
 from e1gw.testing.service import Service
 from e1gw.testing.waits import SECONDS, eventually, until

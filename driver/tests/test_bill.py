@@ -22,13 +22,13 @@ from e1gw import call_names, log_folder
 from e1gw.calls import FIELDS
 from e1gw.counts import DatagramCounts
 from e1gw.events import Event, LineChanged
-from e1gw.lines import IN_CALL, Role, State
+from e1gw_common.lines import IN_CALL, Role, State
 from e1gw.log_folder import LogPair, LogWriter
 from e1gw.watcher import reader as readers, status as statuses, trunk as trunks
 from e1gw.watcher.reader import ReadingNote
 from e1gw.watcher.status import TrunkStatus
-from e1gw.session import CIRCUITS, MULTIFRAME, Command, trunk_record
-from e1gw.writers import put_file
+from e1gw_common.session import CIRCUITS, MULTIFRAME, Command, trunk_record
+from e1gw_common.writers import put_file
 
 BEGIN, STEP = 1_000_000_000.0, 0.002        # the time of day at octet 0; seconds of a multiframe
 LONG, LOOK = 600, 20        # multiframes of the session, and from one look of the service to the next

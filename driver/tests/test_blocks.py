@@ -20,10 +20,10 @@ from .test_trunk import aligned, call
 from .world import World, config_of
 from e1gw.ctl_all import TrunkLine
 from e1gw.exchange import IDLE, SEIZED
-from e1gw.lines import IN_CALL, Line, Role, State
+from e1gw_common.lines import IN_CALL, Line, Role, State
 from e1gw.metrics import exposition
 from e1gw.watcher.blocks import BY_OPERATOR, BlockWatch, BlockedCircuits, KeptBlocks
-from e1gw.session import Command
+from e1gw_common.session import Command
 
 ROLES = {1: Role.OUTGOING, 2: Role.INCOMING, 3: Role.INCOMING}
 # ITU-T Q.421: what a command of this end does to an outgoing and an incoming line, and what the exchange does next.

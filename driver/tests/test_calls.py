@@ -12,7 +12,7 @@ from e1gw.call_names import CallNames
 from e1gw.calls import FIELDS, CallLog, is_another_gateway, moment
 from e1gw.counts import REASONS, CircuitCounts, DatagramCounts, ToldCounts
 from e1gw.events import LineChanged
-from e1gw.lines import IN_CALL, Line, Role, State
+from e1gw_common.lines import IN_CALL, Line, Role, State
 from e1gw.watcher.missed import MissedReports
 
 

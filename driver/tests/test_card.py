@@ -15,7 +15,7 @@ from e1gw import card_opening, dahdi
 from e1gw.dahdi import (BUFFERS, NUMBER, PARAMETERS, SPAN, Alarm, Blocks, CardFault, DahdiChannel, Request, SpanFacts,
                         channel_facts, span_facts)
 from e1gw.events import Event
-from e1gw.fault_words import name_of_process
+from e1gw_common.fault_words import name_of_process
 from e1gw.watcher.card import CardWatch
 
 

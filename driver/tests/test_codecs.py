@@ -15,7 +15,7 @@ from .limits import LONG
 from .test_trunk import aligned, call
 from .world import World, config_of
 from e1gw.ctl_codec import save_codecs, with_codec
-from e1gw.lines import IN_CALL, Line, Role, State
+from e1gw_common.lines import IN_CALL, Line, Role, State
 from e1gw.watcher.codecs import CodecWatch, codecs_over
 
 

@@ -41,9 +41,9 @@ class CommandNameTests(support.FolderCase):
         programs = sorted(name for name in os.listdir(BIN) if name != 'e1gw')
         self.assertEqual(programs, sorted(f'e1gw-{name}' for name in COMMANDS))
         self.assertEqual(project['tool']['setuptools']['script-files'], [f'bin/{name}' for name in programs])
-        folders = {path[len(DRIVER) + 1:].replace('/', '.') for path, _, names in os.walk(os.path.join(DRIVER, 'e1gw'))
+        folders = {path[len(DRIVER) + 1:].replace('/', '.') for path, _, names in os.walk(DRIVER)
                    if '__init__.py' in names}
-        self.assertEqual(set(project['tool']['setuptools']['packages']), folders - {'e1gw.testing'})
+        self.assertEqual(set(project['tool']['setuptools']['packages']), folders - {'e1gw.testing', 'tests'})
 
     def test_each_program_runs_its_command(self) -> None:
         """Also by a link of another name."""
@@ -66,7 +66,7 @@ class ProgramBuiltTests(support.FolderCase):
         os.makedirs(self.path('scripts'), exist_ok=True)
         os.chmod(self.write('scripts/build', f'#!/bin/sh\necho "e1gw: proving gw_switch" >&2\necho /program$1\n'
                             f'exit {status}\n'), 0o755)
-        code = f'from e1gw import programs; programs.TOP = {self.folder!r}; print(programs.{asked}(None))'
+        code = f'from e1gw_common import programs; programs.TOP = {self.folder!r}; print(programs.{asked}(None))'
         return ran(sys.executable, '-c', code, env=AROUND | {'E1GW': ''})
 
     def test_what_is_built(self) -> None:
@@ -110,7 +110,7 @@ class PagesTests(unittest.TestCase):
         self.assertEqual({word for word in commands if word in (control.__doc__ or '')}, commands - {'on-loss'})
 
     def test_words_of_parts_that_are_gone(self) -> None:
-        for pattern in '*.md', 'docs/*', 'dist/**/*', 'driver/e1gw/**/*.py':
+        for pattern in '*.md', 'docs/*', 'dist/**/*', 'driver/e1gw*/**/*.py':
             for path in filter(Path.is_file, Path(support.TOP).glob(pattern)):
                 self.assertNotRegex(path.read_text('utf-8'), r'(?i)\b(shadow|follower|keeper)\b', path)
 

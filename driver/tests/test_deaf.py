@@ -17,7 +17,7 @@ from e1gw.ctl_calls import row_of
 from e1gw.deaf import DEAF_AFTER, DeafCalls, Hearing, words_of_call
 from e1gw.events import CallsDeaf, Event
 from e1gw.metrics import circuit_table, exposition, table
-from e1gw.session import OCTETS_A_SECOND, DatagramRefusal
+from e1gw_common.session import OCTETS_A_SECOND, DatagramRefusal
 from e1gw.watcher.events import LineFile
 from e1gw.watcher.page import body_of, ended_row, parts_of
 

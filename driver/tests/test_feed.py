@@ -29,8 +29,8 @@ from e1gw.watcher.missed import passed
 from e1gw.watcher.reader import LogReader
 from e1gw.watcher.standby import NO_CERTIFICATE, NO_TRUNK, FedLog, TrunkStandby
 from e1gw.satop_numbers import PacketNumber, number_of_now
-from e1gw.session import MULTIFRAME, OCTETS_A_SECOND, trunk_record
-from e1gw.tls import context_of
+from e1gw_common.session import MULTIFRAME, OCTETS_A_SECOND, trunk_record
+from e1gw_common.tls import context_of
 
 RECORD = MULTIFRAME / OCTETS_A_SECOND       # seconds of a record
 HOST = '127.0.0.1'

@@ -6,9 +6,9 @@ import unittest
 from typing import Any
 
 from .properties import PropertyCase
-from e1gw.lines import (IN_CALL, OPEN, PAIRS, SEIZURE_WAIT, WAIT, Line, Role, State, config_text, law_of, lines_of,
-                        no_peer, no_peers, tables_of, wait_words, with_wait)
-from e1gw.session import Command
+from e1gw_common.lines import (IN_CALL, OPEN, PAIRS, SEIZURE_WAIT, WAIT, Line, Role, State, config_text, law_of,
+                               lines_of, no_peer, no_peers, tables_of, wait_words, with_wait)
+from e1gw_common.session import Command
 
 
 class LineTests(unittest.TestCase):

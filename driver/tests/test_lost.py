@@ -18,8 +18,8 @@ from .test_watch import TrunkWatchCase
 from .world import World
 from e1gw.calls import CallLine, read_calls
 from e1gw.ctl_all import TrunkLine
-from e1gw.lost import AHEAD, IN_A_ROW, WINDOW, ReceivedNumbers
-from e1gw.session import datagram_record
+from e1gw_common.lost import AHEAD, IN_A_ROW, WINDOW, ReceivedNumbers
+from e1gw_common.session import datagram_record
 from e1gw.testing.ports import free_port, free_ports
 
 COUNT, FIRST = 120, 65_500          # packets of a call, and the first number

@@ -7,8 +7,8 @@ from math import inf
 from typing import Any
 
 from e1gw.outages import NO_OCTETS, SLIP, TrunkOutage, outages_in
-from e1gw.session import OCTETS_A_SECOND
-from e1gw.session_clock import FileNote, SessionClock, breaks_of
+from e1gw_common.session import OCTETS_A_SECOND
+from e1gw_common.session_clock import FileNote, SessionClock, breaks_of
 
 
 def outages(*events: dict[str, Any], since: float = 0.0, until: float = 1e9) -> list[TrunkOutage]:

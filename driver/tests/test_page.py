@@ -23,7 +23,7 @@ from e1gw.ctl_all import TrunkHere, TrunkLine
 from e1gw.events import (AlarmChanged, CardAlarm, CardAlarmChanged, Connected, Crc4Change, Crc4Changed, Disconnected,
                          Event, Fed, Flows, LineChanged, NotFed, ReadEvents, RemoteAlarmChanged, Slip, SlotsChange,
                          SlotsChanged, Stalled, TrunkLost, TrunkOpened, WrongRate)
-from e1gw.lines import Alignment, Line, Role, State
+from e1gw_common.lines import Alignment, Line, Role, State
 from e1gw.metrics import NOT_OPEN
 from e1gw.watcher import pages
 from e1gw.watcher.options import kept_of

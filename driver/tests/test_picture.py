@@ -20,8 +20,8 @@ from e1gw.picture.page import MOST as MOST_OCTETS
 from e1gw.picture.page import draw
 from e1gw.picture.sound import HeardSamples
 from e1gw.picture.svg import Scale, Sheet, apart, clock, duration, runs
-from e1gw.session_clock import Break
-from e1gw.session import OCTETS_A_SECOND, Codec, Kind, codec_record, records_in, trunk_record
+from e1gw_common.session_clock import Break
+from e1gw_common.session import OCTETS_A_SECOND, Codec, Kind, codec_record, records_in, trunk_record
 
 
 def facts_of(session: MadeSession) -> Facts:

@@ -11,12 +11,12 @@ from unittest import mock
 from . import support
 from .picture_made import MadeSession, PictureSender, coded, packets, page_of
 from e1gw.recording_ring import Ring
-from e1gw.session_files import kept
+from e1gw_common.session_files import kept
 from e1gw.picture.beginning import begin
 from e1gw.picture.facts import Facts
 from e1gw.picture.main import gathered
 from e1gw.picture.why import finding_lines, last_facts
-from e1gw.session import OCTETS_A_SECOND, Kind, trunk_record
+from e1gw_common.session import OCTETS_A_SECOND, Kind, trunk_record
 
 
 BEGIN = 1_800_000_000       # 2027-01-15 08:00:00 UTC

@@ -17,9 +17,9 @@ from .picture_made import (BEGIN, COMMAND, PEER, MadeSession, PictureSender, apa
                            udp)
 
 from e1gw.picture import main
-from e1gw.packets import BadCapture, Datagram, datagrams
-from e1gw.session import OCTETS_A_SECOND, Kind, records_in, trunk_record
-from e1gw.session_files import RecordedSession
+from e1gw_common.packets import BadCapture, Datagram, datagrams
+from e1gw_common.session import OCTETS_A_SECOND, Kind, records_in, trunk_record
+from e1gw_common.session_files import RecordedSession
 
 COUNTS = re.compile(r'(\d+) sent, (\d+) received, (\d+) discarded')
 

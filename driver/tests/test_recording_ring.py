@@ -14,8 +14,8 @@ from unittest import mock
 from . import support
 from .properties import PropertyCase
 from e1gw.recording_ring import MOST_SLIPS, Ring, seconds_of
-from e1gw.session import OCTETS_A_SECOND
-from e1gw.session_files import kept, note_of
+from e1gw_common.session import OCTETS_A_SECOND
+from e1gw_common.session_files import kept, note_of
 
 KEPT = 60                   # seconds
 EARLIER, OWN = 5, 6         # files, in place of so many that no test makes them

@@ -25,7 +25,7 @@ from e1gw.watcher import reader, recordings, status
 from e1gw.log_folder import RECORDS, LogState
 from e1gw.watcher.reader import LogReader, ReadingNote
 from e1gw.watcher.recordings import RecordingNote, RecordingWants, TrunkRecording
-from e1gw.session import MULTIFRAME, OCTETS_A_SECOND
+from e1gw_common.session import MULTIFRAME, OCTETS_A_SECOND
 
 
 class RingBeginTests(support.FolderCase, unittest.IsolatedAsyncioTestCase):

@@ -10,7 +10,7 @@ from . import support
 from e1gw.counts import DatagramCounts
 from e1gw.events import Disconnected, Event, LineChanged
 from e1gw.reports import BadTelling, TrunkState
-from e1gw.session import DatagramRefusal
+from e1gw_common.session import DatagramRefusal
 from e1gw.watcher import status
 
 IDLE = [f'{n:2} outgoing idle        10 10          0          0          0 pcma      8' for n in range(1, 31)]

@@ -7,7 +7,7 @@ from typing import Any
 from .properties import PropertyCase
 from e1gw.events import Event
 from e1gw.resyncs import APART, FIRST, REFUSED, Resyncs
-from e1gw.session import DatagramRefusal
+from e1gw_common.session import DatagramRefusal
 
 LATE, FULL = int(DatagramRefusal.LATE), int(DatagramRefusal.FULL)
 SECOND = 256_000

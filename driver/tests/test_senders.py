@@ -8,7 +8,7 @@ import unittest
 from . import support
 from .test_trunk import aligned, call
 from .world import World
-from e1gw.session import Packet
+from e1gw_common.session import Packet
 from e1gw.testing.ports import free_ports
 
 PEER, STRANGER = 0x31, 0x72             # octets of their speech

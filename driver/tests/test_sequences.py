@@ -18,8 +18,8 @@ from . import support
 from .keepers import CIRCUITS, NO_EFFECT
 from .support import octets_in
 from .test_watcher import WatcherCase, events_in
-from e1gw.session import Codec, Kind, codec_record, records_in
-from e1gw.session_files import by_time, kept, note_of, octets_of
+from e1gw_common.session import Codec, Kind, codec_record, records_in
+from e1gw_common.session_files import by_time, kept, note_of, octets_of
 
 HELD = 12                   # multiframes that a device holds which nobody reads
 NAMELESS = 35               # a signal of real time: it could not be told, and no program followed

@@ -13,7 +13,7 @@ from . import support
 from .hand_clock import threads_of
 from .support import SECONDS, octets_in
 from e1gw.exchange import SEIZED, ServeProcess, slot_of
-from e1gw.session import CIRCUITS, FRAME, Kind, Packet, datagram_record, records_in, trunk_record
+from e1gw_common.session import CIRCUITS, FRAME, Kind, Packet, datagram_record, records_in, trunk_record
 from e1gw.testing.ports import free_ports
 
 Step = tuple[list[tuple[int, bytes]], bytes]        # datagrams of circuits, and the octets after them

@@ -4,9 +4,9 @@ import unittest
 from dataclasses import replace
 
 from . import support
-from e1gw import session
-from e1gw.session import (BadPacket, BadSession, Codec, CodecRefusal, Command, CommandRefusal, DatagramRefusal, Fault,
-                          Kind, Packet, Reader, Record)
+from e1gw_common import session
+from e1gw_common.session import (BadPacket, BadSession, Codec, CodecRefusal, Command, CommandRefusal, DatagramRefusal,
+                                 Fault, Kind, Packet, Reader, Record)
 
 MANUAL = support.text_of(f'{support.TOP}/dist/man/e1gw-session.5')
 SEIZE = bytes.fromhex('43 01 00 01 01')

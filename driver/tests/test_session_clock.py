@@ -10,12 +10,12 @@ from unittest import mock
 
 from . import support
 from .logs import WrittenLog
-from e1gw import session_clock
+from e1gw_common import session_clock
 from e1gw.clock import TICK, ClockFinding
 from e1gw.watcher import reader, recordings
-from e1gw.session import MULTIFRAME, OCTETS_A_SECOND
-from e1gw.session_clock import FileNote, SessionClock
-from e1gw.session_files import kept
+from e1gw_common.session import MULTIFRAME, OCTETS_A_SECOND
+from e1gw_common.session_clock import FileNote, SessionClock
+from e1gw_common.session_files import kept
 
 RECORD = MULTIFRAME / OCTETS_A_SECOND       # seconds
 LATE = TICK + 0.02          # .. by which the begin of a file is seen late, at a look

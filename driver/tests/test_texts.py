@@ -17,9 +17,9 @@ from e1gw.events import (AlarmChanged, BlockNews, Burst, CallsCleared, CardAlarm
                          Connected, Crc4Change, Crc4Changed, Disconnected, Event, Fed, Flows, LineChanged, NotFed,
                          RateChanged, RemoteAlarmChanged, RoleGiven, SatopChanged, Slip, SlotsChange, SlotsChanged,
                          LogLost, Stalled, TrunkLost, TrunkOpened, WatchEnded, WrongRate)
-from e1gw.faults import Parser, checked, named, number, options_words, words_of_fault, words_of_refusal
-from e1gw.lines import Alignment, Role, State
-from e1gw.session import CommandRefusal
+from e1gw_common.faults import Parser, checked, named, number, options_words, words_of_fault, words_of_refusal
+from e1gw_common.lines import Alignment, Role, State
+from e1gw_common.session import CommandRefusal
 from e1gw.tie import status as tie_status
 from e1gw.tie.tie import Tie, TieOptions
 

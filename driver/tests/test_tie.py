@@ -15,8 +15,8 @@ from unittest import mock
 from . import support
 from .properties import PropertyCase
 from .ties import ClockedCase, StandInDriver, said_by_tie
-from e1gw.lines import Role, State
-from e1gw.session import CIRCUITS
+from e1gw_common.lines import Role, State
+from e1gw_common.session import CIRCUITS
 from e1gw.testing.ports import free_port
 from e1gw.tie.circuit import CircuitEnd, LinkState, TieCircuit
 from e1gw.tie.events import CallOver, Ended, SiteCame, SiteGone, Warned
@@ -26,7 +26,7 @@ from e1gw.tie.pairs import pairs_of
 from e1gw.tie.status import serve_status, texts_of
 from e1gw.tie.tie import Tie, TieOptions
 from e1gw.tie.trunk import LOOK
-from e1gw.tls import is_exposed, is_loopback
+from e1gw_common.tls import is_exposed, is_loopback
 
 
 class TiePairsTests(unittest.TestCase):

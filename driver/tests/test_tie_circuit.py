@@ -6,8 +6,8 @@ from dataclasses import replace
 from itertools import product
 from typing import Iterator
 
-from e1gw.lines import Role, State
-from e1gw.session import Command
+from e1gw_common.lines import Role, State
+from e1gw_common.session import Command
 from e1gw.tie.circuit import NO_CALL, CircuitEnd, LinkState, TieCircuit, begun, call_name
 
 S, GOOD, LOST, GIVEN_UP = State, LinkState.GOOD, LinkState.LOST, LinkState.GIVEN_UP

@@ -7,7 +7,7 @@ from typing import Any, Coroutine
 
 from .ties import G726, PCMA
 from e1gw.events import Report
-from e1gw.lines import State
+from e1gw_common.lines import State
 from e1gw.tie.coding import CircuitCoding, CodecChanges, Coding
 from e1gw.tie.events import CodecGiven, Warned
 

@@ -16,14 +16,14 @@ from .support import eventually
 from .test_tie_circuit import ACKED, ANSWERED
 from .ties import ANSWER, G726, IDLE, PCMA, SEIZED, ClockedCase, StandInDriver, said_by_tie
 from e1gw.events import Report
-from e1gw.lines import Role, State
-from e1gw.session import CIRCUITS
+from e1gw_common.lines import Role, State
+from e1gw_common.session import CIRCUITS
 from e1gw.testing.ports import free_port
 from e1gw.tie.main import ANYBODY
 from e1gw.tie.messages import Greeting, Message, SiteState, encode_message, message_of
 from e1gw.tie.site import GONE, STRANGERS, Reasons, Site, has_name, one_too_many
 from e1gw.tie.tie import Tie, TieOptions
-from e1gw.tls import context_of
+from e1gw_common.tls import context_of
 
 
 class SiteRuleTests(unittest.TestCase):

@@ -10,7 +10,7 @@ from typing import Any, Coroutine
 from .properties import PropertyCase
 from .test_tie_circuit import ACKED, ANSWERED, BLOCKED, CLEAREDBACK, RELEASING, disagreement
 from .ties import ANSWER, G726, HELD, IDLE, SEIZED, StandInDriver
-from e1gw.lines import Role, State
+from e1gw_common.lines import Role, State
 from e1gw.tie.coding import SIGNALLING
 from e1gw.tie.messages import encode_message, message_of
 from e1gw.tie.pairs import Pairs

@@ -17,7 +17,7 @@ from . import support
 from .support import octets_in
 from .world import World, children, config_of, trunk_command
 from e1gw.exchange import SEIZED
-from e1gw.session import FRAME, MULTIFRAME, trunk_record
+from e1gw_common.session import FRAME, MULTIFRAME, trunk_record
 from e1gw.trunks import host_and_port
 
 FOUR = range(1, 5)

@@ -23,7 +23,7 @@ from .support import SECONDS
 from .world import children, trunk_command, words_of
 from e1gw.holder_state import TrunkPlaces
 from e1gw.log_folder import FolderReader, LogFiles
-from e1gw.session import MULTIFRAME, OCTETS_A_SECOND, packet_of
+from e1gw_common.session import MULTIFRAME, OCTETS_A_SECOND, packet_of
 from e1gw.testing.ports import free_port
 from e1gw.testing.service import answer_of, ask
 from e1gw.watcher.feed import TICK

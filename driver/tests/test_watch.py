@@ -18,7 +18,7 @@ from e1gw.calls import CallLog, CallsNote
 from e1gw.clock import ClockFinding, TrunkRate
 from e1gw.events import (Burst, CallsCleared, Event, FlowChanged, Flows, RateChanged, ReadEvents, Slip, Stalled,
                          WatchEnded)
-from e1gw.lines import Line, Role, State
+from e1gw_common.lines import Line, Role, State
 from e1gw.resyncs import Resyncs
 from e1gw.watcher import decisions, events, status, watch
 from e1gw.watcher.commands import MOST_HELD, ControlPeer
@@ -28,7 +28,7 @@ from e1gw.watcher.missed import MissedReports
 from e1gw.watcher.note import typed
 from e1gw.watcher.page import PageNotes, body_of, parts_of
 from e1gw.watcher.pages import MOST_VISITORS, TrunkPages, WebServer
-from e1gw.session import CIRCUITS, OCTETS_A_SECOND, Command, command_record
+from e1gw_common.session import CIRCUITS, OCTETS_A_SECOND, Command, command_record
 
 
 COUNTED = 'seizures', 'answers', 'unacknowledged', 'faults', 'lost', 'datagrams'

@@ -12,10 +12,10 @@ from e1gw.calls import CallRecord, CallsNote, CircuitNote
 from e1gw.counts import PacketsNote, ToldCounts
 from e1gw.crc4 import Crc4Note
 from e1gw.holder_state import ACTIVE, INTERFACE, STANDBY, HolderState, TrunkPlaces, other_interface, state_in
-from e1gw.lines import LineCounts
+from e1gw_common.lines import LineCounts
 from e1gw.lock import InUse
 from e1gw.log_folder import LogWriter, logged_by
-from e1gw.session import MULTIFRAME, trunk_record
+from e1gw_common.session import MULTIFRAME, trunk_record
 from e1gw.slots import SlotsNote
 from e1gw.watcher import door
 from e1gw.watcher.decisions import Flow

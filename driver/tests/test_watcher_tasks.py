@@ -10,8 +10,9 @@ from unittest import mock
 from . import support
 from .support import SECONDS
 from e1gw.events import AlarmChanged, AlignmentLost
-from e1gw.lines import Alignment
-from e1gw.watcher import events, tasks
+from e1gw_common.lines import Alignment
+from e1gw.watcher import events
+from e1gw_common import tasks
 from e1gw.watcher.journal import MOST, LineLimit
 from e1gw.watcher.note import NoteFiles
 
@@ -76,7 +77,7 @@ class TaskTests(unittest.IsolatedAsyncioTestCase):
         async def work() -> None:
             if fault := faults.pop(0):
                 raise fault
-        with mock.patch.object(tasks, 'AGAIN', 0.0), self.assertLogs('e1gw.watcher.tasks') as told:
+        with mock.patch.object(tasks, 'AGAIN', 0.0), self.assertLogs('e1gw_common.tasks') as told:
             await tasks.again(work, 'the work')
         self.assertRegex(told.records[0].getMessage(),
                          r'^the work goes on: ValueError: odd \(test_watcher_tasks.py:\d+ in work\)$')

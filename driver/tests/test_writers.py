@@ -10,7 +10,7 @@ from . import support
 from e1gw.calls import FIELDS, KEPT, MOST_OCTETS
 from e1gw.watcher import events
 from e1gw.watcher.events import EventFile
-from e1gw.writers import put_file, write_all
+from e1gw_common.writers import put_file, write_all
 
 
 class LineFileTests(support.FolderCase):

@@ -12,8 +12,8 @@ from typing import Any, Callable, Coroutine
 
 from . import support
 from .test_tie_circuit import COLUMN, DONE, INCOMING, OUTGOING
-from e1gw.lines import UNKNOWN, Role, State
-from e1gw.session import Command
+from e1gw_common.lines import UNKNOWN, Role, State
+from e1gw_common.session import Command
 from e1gw.tie.coding import Coding
 
 IDLE, SEIZED, ANSWER, HELD = 0b10, 0b00, 0b01, 0b11         # bits a and b

@@ -18,7 +18,7 @@ from . import limits, support
 from .support import SECONDS
 from e1gw.holder.options import FLAGS, TEXTS
 from e1gw.exchange import ACKNOWLEDGED, ANSWERED, IDLE, SEIZED
-from e1gw.session import MULTIFRAME
+from e1gw_common.session import MULTIFRAME
 from e1gw.testing.ports import free_ports
 from e1gw.testing.service import ask
 

@@ -71,7 +71,7 @@ class Tree(FolderCase):
 
     def test_module_without_a_head(self) -> None:
         self.write('driver/e1gw/tie/__init__.py', '')
-        self.assertEqual(tree.modules(), {'calls': 'A line for each call: as CSV.', 'tie/': ''})
+        self.assertEqual(tree.modules(), {'e1gw/calls': 'A line for each call: as CSV.', 'e1gw/tie/': ''})
         self.assertEqual(list(self.docs.wrong_heads()), ['driver/e1gw/tie/: does not begin with a sentence'])
 
     def test_links_out_of_the_package(self) -> None:

@@ -88,8 +88,8 @@ class Edits(unittest.TestCase):
 
     def test_each_is_well_formed(self) -> None:
         """And another module than before."""
-        for name in ('clock', 'tie/messages'):
-            with open(f'{TOP}/driver/e1gw/{name}.py', encoding='utf-8') as file:
+        for name in ('e1gw/clock', 'e1gw/tie/messages'):
+            with open(f'{TOP}/driver/{name}.py', encoding='utf-8') as file:
                 text = file.read()
             made = {ast.dump(ast.parse(edit.made(text.encode()))) for edit in edits_of(text)}
             self.assertEqual((len(made), ast.dump(ast.parse(text)) in made), (len(edits_of(text)), False))
@@ -118,33 +118,33 @@ class Mutants(FolderCase):
 
     def test_numbers(self) -> None:
         """Two that change nothing which is tested, and one that no test reaches; then all of them are listed."""
-        status, told = self.ran('numbers')
+        status, told = self.ran('e1gw/numbers')
         self.assertEqual((status, told[-1]), (1, '4 passed, 3 failed'))
         self.assertIn('driver/e1gw/numbers.py:10: a constant changed, reached by no test', told)
-        rows = '\n'.join(line for line in told if line.startswith(('numbers: ', '  => ')))
-        self.assertEqual(self.ran('numbers', '--left', '43')[1][-1], '4 passed, 0 failed')
-        status, told = self.ran('numbers', '--seed', '7', listed=f'# The rows.\n\n{rows}\n  a reason\n')
+        rows = '\n'.join(line for line in told if line.startswith(('e1gw/numbers: ', '  => ')))
+        self.assertEqual(self.ran('e1gw/numbers', '--left', '43')[1][-1], '4 passed, 0 failed')
+        status, told = self.ran('e1gw/numbers', '--seed', '7', listed=f'# The rows.\n\n{rows}\n  a reason\n')
         self.assertEqual((status, told[-1]), (0, '4 passed, 0 failed'))
-        listed = f'{rows}\n  a reason\nnumbers: SEVEN = 6\n  => SEVEN = 7\n  another\n'
-        status, told = self.ran('numbers', '--count', '3', listed=listed)
+        listed = f'{rows}\n  a reason\ne1gw/numbers: SEVEN = 6\n  => SEVEN = 7\n  another\n'
+        status, told = self.ran('e1gw/numbers', '--count', '3', listed=listed)
         self.assertEqual((status, told[-1]), (1, '3 passed, 1 failed'))
         with open(f'{self.top}/driver/e1gw/numbers.py', encoding='utf-8') as file:
             self.assertEqual(file.read(), MODULE)
 
     def test_processes_of_a_test(self) -> None:
         """With a program the tests that need one are run, and what they start is seen."""
-        status, told = self.ran('numbers', '--program', '/bin/true')
+        status, told = self.ran('e1gw/numbers', '--program', '/bin/true')
         self.assertEqual((status, told[-1]), (1, '5 passed, 2 failed'))
 
     def test_one_that_does_not_end(self) -> None:
         self.write('driver/e1gw/loop.py', LOOP)
         self.write('driver/tests/test_loop.py', WAITS)
         with mock.patch.multiple(mutants, AT_LEAST=1, TIMES=0):
-            status, told = self.ran('loop', '--jobs', '1')
+            status, told = self.ran('e1gw/loop', '--jobs', '1')
         self.assertEqual((status, told[-1]), (0, '2 passed, 0 failed'))
         self.assertIn('2 endless', told[-2])
 
     def test_no_module(self) -> None:
         with self.assertRaises(SystemExit) as ended, contextlib.redirect_stderr(io.StringIO()):
-            self.ran('letters')
+            self.ran('e1gw/letters')
         self.assertEqual(ended.exception.code, 2)

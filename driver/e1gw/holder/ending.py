@@ -6,7 +6,7 @@ from contextlib import suppress
 from math import inf
 from typing import TYPE_CHECKING
 
-from ..fault_words import words_of_fault
+from e1gw_common.fault_words import words_of_fault
 from .decisions import Decision, EndFault, EndOfProgram, EndReason, NextAct, after_end
 from .job import Job
 from .journal import Severity, say

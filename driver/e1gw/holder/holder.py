@@ -5,10 +5,10 @@ import os
 import time
 from contextlib import suppress
 
+from e1gw_common.fault_words import words_of_fault
+from e1gw_common.writers import put_file
 from .. import VERSION
-from ..fault_words import words_of_fault
 from ..holder_state import ACTIVE, INTERFACE, STANDBY, HolderState
-from ..writers import put_file
 from .decisions import Deaths, EndReason, Renewals
 from .ending import finish, follow, is_late
 from .journal import Severity, has_failed, say

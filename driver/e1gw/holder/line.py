@@ -10,7 +10,7 @@ import time
 import zlib
 from typing import Any, Mapping
 
-from ..fault_words import words_of_fault
+from e1gw_common.fault_words import words_of_fault
 from .card import Card, card_of
 from .decisions import Openings
 from .journal import Severity, say

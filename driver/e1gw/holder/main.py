@@ -8,9 +8,9 @@ import sys
 import time
 from typing import NoReturn
 
-from ..fault_words import options_words, words_of_fault
+from e1gw_common.fault_words import options_words, words_of_fault
+from e1gw_common.writers import hold_descriptors
 from ..lock import InUse, hold, let_go
-from ..writers import hold_descriptors
 from .decisions import Beginning, beginning_of, is_active
 from .ending import LOST, finish
 from .files import plain_in, word_in

@@ -163,7 +163,7 @@ def program_of(asked: str, around: Mapping[str, str]) -> str:
     path = asked or around.get('E1GW', '')
     if '/' in path:
         return os.path.abspath(path)
-    from ..programs import path_of_program
+    from e1gw_common.programs import path_of_program
     return path_of_program(path)
 
 

@@ -7,7 +7,7 @@ import signal
 import time
 from typing import TYPE_CHECKING, Any, Mapping
 
-from ..fault_words import words_of_fault
+from e1gw_common.fault_words import words_of_fault
 from .decisions import EndReason
 from .ending import finish
 from .job import Job

@@ -4,9 +4,9 @@ from __future__ import annotations
 import re
 from typing import TYPE_CHECKING
 
-from ..fault_words import words_of_fault
+from e1gw_common.fault_words import words_of_fault
+from e1gw_common.writers import put_file
 from ..holder_state import ACTIVE, STANDBY
-from ..writers import put_file
 from .decisions import EndReason
 from .ending import ANEW
 from .journal import Severity, say

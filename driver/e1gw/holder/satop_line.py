@@ -11,8 +11,8 @@ import time
 from contextlib import contextmanager, suppress
 from typing import Any, Iterator, Mapping
 
+from e1gw_common.writers import put_file
 from ..satop_numbers import ENDS, begun_in, lines_in, number_of_now
-from ..writers import put_file
 from .decisions import Openings
 from .journal import Severity, say
 from .line import HeldLine

@@ -9,8 +9,8 @@ import time
 from contextlib import suppress
 from typing import TYPE_CHECKING
 
-from ..fault_words import name_of_process, words_of_fault
-from ..writers import put_file
+from e1gw_common.fault_words import name_of_process, words_of_fault
+from e1gw_common.writers import put_file
 from .decisions import FIRST_PAUSE
 from .journal import Severity, say
 from .log import has_log, user_of

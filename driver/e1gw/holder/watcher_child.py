@@ -6,7 +6,7 @@ import signal
 import time
 from math import inf
 
-from ..fault_words import words_of_fault
+from e1gw_common.fault_words import words_of_fault
 from ..holder_state import STARTED_BY
 from .decisions import Openings
 from .journal import Severity, say

@@ -11,10 +11,10 @@ from collections.abc import Iterable, Iterator
 from contextlib import suppress
 from dataclasses import dataclass
 
-from ..session_files import InputError, RecordedSession, kept
-from ..lines import wait_words
-from ..programs import program_of
-from ..session import MULTIFRAME, records_for
+from e1gw_common.lines import wait_words
+from e1gw_common.programs import program_of
+from e1gw_common.session import MULTIFRAME, records_for
+from e1gw_common.session_files import InputError, RecordedSession, kept
 from .replay import Replay
 
 MIDDLE = 'the session begins in the middle; calls that were under way show as fault or blocked until they end'

@@ -8,9 +8,9 @@ from itertools import islice
 from statistics import median
 from typing import Any
 
-from ..session_files import InputError
-from ..packets import Datagram, datagrams
-from ..session import FRAME, OCTETS_A_SECOND, Kind, datagram_record, trunk_record
+from e1gw_common.packets import Datagram, datagrams
+from e1gw_common.session import FRAME, OCTETS_A_SECOND, Kind, datagram_record, trunk_record
+from e1gw_common.session_files import InputError
 from .facts import MOST, Address, Facts, Wire
 from .reading import HEAD, records_of
 

@@ -6,8 +6,8 @@ from collections.abc import Callable
 from functools import partial
 from typing import NamedTuple, TypeVar
 
-from ..lines import OPEN
-from ..session import name_of
+from e1gw_common.lines import OPEN
+from e1gw_common.session import name_of
 from .facts import NOT_OPEN, SECOND, WINDOW, Answer, Cell, Facts, Row, joined
 from .svg import LEFT, WIDE, Scale, Sheet, apart, duration, runs
 

@@ -13,10 +13,10 @@ from collections.abc import Iterable, Iterator, Sequence
 from dataclasses import dataclass, field
 from typing import Any
 
-from ..session_clock import Break
-from ..lines import OPEN, SEIZURE_WAIT
-from ..lost import ReceivedNumbers
-from ..session import FRAME, MULTIFRAME, OCTETS_A_SECOND, Repetitions
+from e1gw_common.lines import OPEN, SEIZURE_WAIT
+from e1gw_common.lost import ReceivedNumbers
+from e1gw_common.session import FRAME, MULTIFRAME, OCTETS_A_SECOND, Repetitions
+from e1gw_common.session_clock import Break
 from .sound import HeardSamples, ListeningTimes
 
 SECOND = OCTETS_A_SECOND

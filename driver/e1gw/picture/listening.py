@@ -3,9 +3,9 @@ from __future__ import annotations
 
 import math
 
-from ..frames import DOUBLE, is_frame
-from ..lines import OPEN
-from ..session import FRAME, packet_of
+from e1gw_common.frames import DOUBLE, is_frame
+from e1gw_common.lines import OPEN
+from e1gw_common.session import FRAME, packet_of
 from .facts import BITS, Facts, Row
 from .orders import STRETCH, Orders
 from .sound import LOOKED_AT, HeardSamples, heard, is_silent

@@ -7,12 +7,12 @@ import sys
 import time
 from collections.abc import Callable, Iterator
 
-from ..faults import Parser, checked
-from ..session_clock import second_of
-from ..session_files import InputError, RecordedSession
-from ..lines import read_config, with_wait
-from ..frames import raw_words_of
-from ..session import OCTETS_A_SECOND, circuits_of
+from e1gw_common.faults import Parser, checked
+from e1gw_common.frames import raw_words_of
+from e1gw_common.lines import read_config, with_wait
+from e1gw_common.session import OCTETS_A_SECOND, circuits_of
+from e1gw_common.session_clock import second_of
+from e1gw_common.session_files import InputError, RecordedSession
 from .beginning import Begun, begin
 from .capture import merged
 from .facts import Facts

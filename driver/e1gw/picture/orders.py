@@ -6,7 +6,7 @@ from __future__ import annotations
 import subprocess
 from collections.abc import Callable, Sequence
 
-from ..session import datagram_record
+from e1gw_common.session import datagram_record
 from .facts import BITS
 from .sound import HeardSamples, compared, sound
 

@@ -10,7 +10,7 @@ import time
 from collections.abc import Iterable, Mapping, Sequence
 from urllib.parse import quote
 
-from ..lines import OPEN, circuit_words
+from e1gw_common.lines import OPEN, circuit_words
 from . import charts
 from .facts import SECOND, Cell, Facts, Row, joined
 from .findings import NO_FAULT, Anomaly, findings

@@ -6,9 +6,9 @@ from collections import deque
 from collections.abc import Callable, Iterable, Iterator, Mapping
 from typing import Any
 
-from ..session_files import InputError
-from ..lines import SEIZURE_WAIT, WAIT, lines_of
-from ..session import MULTIFRAME, Codec, Command, Kind, refusal_of, trunk_record
+from e1gw_common.lines import SEIZURE_WAIT, WAIT, lines_of
+from e1gw_common.session import MULTIFRAME, Codec, Command, Kind, refusal_of, trunk_record
+from e1gw_common.session_files import InputError
 from .facts import Facts, Row
 from .listening import SpeechListener
 from .replay import Replay

@@ -11,9 +11,9 @@ import threading
 from collections.abc import Callable
 from contextlib import suppress
 
-from ..session_files import PIECE, InputError
-from ..lines import SEIZURE_WAIT, wait_words
-from ..session import trunk_record
+from e1gw_common.lines import SEIZURE_WAIT, wait_words
+from e1gw_common.session import trunk_record
+from e1gw_common.session_files import PIECE, InputError
 
 PATIENCE = 60               # seconds in which the program answers whole records
 NOTHING = trunk_record(b'')         # changes nothing; behind it a client of --tell is let in

@@ -4,7 +4,7 @@ from __future__ import annotations
 from dataclasses import dataclass
 from statistics import fmean, linear_regression, median
 
-from ..session import FRAME
+from e1gw_common.session import FRAME
 from .facts import SECOND, Row
 
 AROUND = 6                  # points on each side of a step

@@ -5,7 +5,7 @@ import html
 import time
 from collections.abc import Iterable, Sequence
 
-from ..session_clock import Break, SessionClock
+from e1gw_common.session_clock import Break, SessionClock
 from .facts import SECOND
 
 LEFT, WIDE, RIGHT = 126, 1000, 14

@@ -5,8 +5,8 @@ import os
 import time
 from collections.abc import Iterator
 
-from ..session import OCTETS_A_SECOND
-from ..session_files import InputError, kept
+from e1gw_common.session import OCTETS_A_SECOND
+from e1gw_common.session_files import InputError, kept
 from .beginning import NO_CONFIG, begin_at
 from .facts import Facts
 from .findings import NO_FAULT, findings

@@ -11,8 +11,8 @@ from __future__ import annotations
 from dataclasses import dataclass, replace
 from enum import Enum
 
-from ..lines import IN_CALL, OPEN, Role, State
-from ..session import Command
+from e1gw_common.lines import IN_CALL, OPEN, Role, State
+from e1gw_common.session import Command
 
 NO_CALL = ''        # the name of no call
 

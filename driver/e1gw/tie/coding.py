@@ -8,7 +8,7 @@ from __future__ import annotations
 from dataclasses import dataclass
 from typing import Any, Callable, Iterable, NamedTuple
 
-from ..lines import State
+from e1gw_common.lines import State
 from .events import CodecGiven, Tell, Warned
 from .trunk import TrunkLink
 

@@ -8,8 +8,8 @@ import json
 from dataclasses import asdict, dataclass
 from typing import Any
 
-from ..lines import Role, State
-from ..session import circuit_of
+from e1gw_common.lines import Role, State
+from e1gw_common.session import circuit_of
 from .circuit import CircuitEnd
 from .pairs import Pairs
 

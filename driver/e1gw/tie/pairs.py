@@ -1,7 +1,7 @@
 """Pairs of a circuit here and one at the other site."""
 from __future__ import annotations
 
-from ..session import CIRCUITS, circuits_of
+from e1gw_common.session import CIRCUITS, circuits_of
 
 Pairs = dict[int, int]      # by a circuit here, the one there
 

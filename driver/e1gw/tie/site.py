@@ -8,7 +8,7 @@ import ssl
 from collections import Counter
 from typing import TYPE_CHECKING, Any, Mapping, TypeVar
 
-from ..faults import words_of_fault
+from e1gw_common.faults import words_of_fault
 from .events import NoConnection
 from .messages import MOST, BadMessage, Greeting, Message, encode_message, message_of
 

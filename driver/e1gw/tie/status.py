@@ -7,7 +7,7 @@ from collections import Counter
 from contextlib import suppress
 from typing import Any
 
-from ..lines import IN_CALL
+from e1gw_common.lines import IN_CALL
 from ..metrics import Family, family
 from ..watcher.commands import unix_listener
 from ..watcher.pages import StatusTexts, WebServer

@@ -7,8 +7,8 @@ from collections import Counter
 from dataclasses import dataclass, replace
 from typing import Any
 
-from ..lines import IN_CALL, Role, State
-from ..session import Command
+from e1gw_common.lines import IN_CALL, Role, State
+from e1gw_common.session import Command
 from .circuit import NO_CALL, CircuitEnd, LinkState, TieCircuit, begun, call_name
 from .coding import CodecChanges
 from .events import (CallOver, CommandAnswered, Dark, Light, LinkChanged, ReleaseStuck, SiteCame, SiteGone, Tell,

@@ -6,9 +6,9 @@ import json
 from collections import deque
 from typing import TYPE_CHECKING, Any
 
-from ..faults import words_of_fault
-from ..lines import UNKNOWN
-from ..watcher.tasks import Tasks
+from e1gw_common.faults import words_of_fault
+from e1gw_common.lines import UNKNOWN
+from e1gw_common.tasks import Tasks
 from .events import TrunkGone, Warned
 
 if TYPE_CHECKING:

@@ -17,9 +17,9 @@ import stat
 import sys
 import time
 
+from e1gw_common.faults import Parser
+from e1gw_common.session import MULTIFRAME
 from ..exchange import ACKNOWLEDGED, ANSWERED, IDLE, SEIZED, Exchange
-from ..faults import Parser
-from ..session import MULTIFRAME
 
 STEP = 0.002            # seconds of a multiframe
 ACKNOWLEDGES, ANSWERS = 10, 500

@@ -31,13 +31,13 @@ from dataclasses import replace
 from ipaddress import ip_address
 from typing import Any, BinaryIO, Callable, Iterable, Iterator, Mapping, NamedTuple
 
-from ..faults import Parser, checked, words_of_fault
-from ..lines import law_of, lines_of, read_config
-from ..packets import BadCapture, packets
-from ..session import (CIRCUITS, SAMPLES_A_SECOND, BadPacket, BadSession, Kind, Record, Repetitions, datagram_record,
-                       packet_of, records)
-from ..session_clock import SessionClock, second_of
-from ..session_files import InputError, kept
+from e1gw_common.faults import Parser, checked, words_of_fault
+from e1gw_common.lines import law_of, lines_of, read_config
+from e1gw_common.packets import BadCapture, packets
+from e1gw_common.session import (CIRCUITS, SAMPLES_A_SECOND, BadPacket, BadSession, Kind, Record, Repetitions,
+                                 datagram_record, packet_of, records)
+from e1gw_common.session_clock import SessionClock, second_of
+from e1gw_common.session_files import InputError, kept
 
 NAME = os.path.basename(sys.argv[0])    # in the package e1gw-pcap
 GATEWAY, PEER = bytes([192, 0, 2, 1]), bytes([192, 0, 2, 2])  # RFC 5737, addresses for examples

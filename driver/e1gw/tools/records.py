@@ -25,11 +25,11 @@ import struct
 import sys
 from typing import BinaryIO, Iterator
 
-from ..faults import Parser, number, words_of_fault
-from ..session_files import InputError, note_of, octets_of, pieces
-from ..frames import REVERSED, FrameSearch, raw_words_of
-from ..session import (CIRCUITS, FRAME, OCTETS_A_SECOND, BadPacket, BadSession, Kind, Record, packet_of, records,
-                       trunk_record)
+from e1gw_common.faults import Parser, number, words_of_fault
+from e1gw_common.frames import REVERSED, FrameSearch, raw_words_of
+from e1gw_common.session import (CIRCUITS, FRAME, OCTETS_A_SECOND, BadPacket, BadSession, Kind, Record, packet_of,
+                                 records, trunk_record)
+from e1gw_common.session_files import InputError, note_of, octets_of, pieces
 
 NAME = os.path.basename(sys.argv[0])    # in the package e1gw-records
 PIECE = 1 << 16

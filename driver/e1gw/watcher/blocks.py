@@ -13,13 +13,13 @@ from dataclasses import dataclass, field
 from enum import Enum
 from typing import Any, Callable, Collection, Container, Coroutine, Iterable, Iterator, Mapping
 
+from e1gw_common.faults import words_of_fault
+from e1gw_common.lines import IN_CALL, Line, Role, State, circuit_words
+from e1gw_common.session import CIRCUITS, Command, CommandRefusal
+from e1gw_common.tasks import Tasks
+from e1gw_common.writers import put_file
 from ..events import BlockNews, CallsCleared, CircuitsBlocked, Tell
-from ..faults import words_of_fault
-from ..lines import IN_CALL, Line, Role, State, circuit_words
 from ..reports import TrunkState
-from ..session import CIRCUITS, Command, CommandRefusal
-from ..writers import put_file
-from .tasks import Tasks
 
 PATIENCE = 2.0              # seconds for a disk, and for what the program answers
 DONE, NOT_BLOCKED = 'done', CommandRefusal.NOT_BLOCKED.words

@@ -8,9 +8,9 @@ import time
 from math import inf
 from typing import Any
 
+from e1gw_common.faults import words_of_fault
 from ..dahdi import CONTROL, Alarm, SpanFacts, span_of
 from ..events import CardAlarm, CardAlarmChanged, Tell
-from ..faults import words_of_fault
 
 LOOK = 1.0                  # seconds between two looks
 DOWN = Alarm.RED | Alarm.BLUE | Alarm.NOT_OPEN

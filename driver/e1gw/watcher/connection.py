@@ -9,8 +9,8 @@ from contextlib import suppress
 from dataclasses import dataclass, field
 from typing import Callable
 
-from ..faults import words_of_fault
-from ..session import HEAD, Kind, Record
+from e1gw_common.faults import words_of_fault
+from e1gw_common.session import HEAD, Kind, Record
 
 AGAIN = 0.1                 # seconds between two tries to connect
 NEXT = 1.5                  # seconds that the next program has to come: less than e1gw-tie waits for an answer

@@ -6,7 +6,7 @@ from enum import Enum
 from math import inf
 from typing import Iterable, Protocol, TypeVar
 
-from ..lines import IN_CALL
+from e1gw_common.lines import IN_CALL
 
 QUIET = 1.0                             # seconds after which octets of the trunk are missed
 RELOADED, REFUSED = 2.0, 60.0           # seconds between two reloads of what waits, and behind one that was refused

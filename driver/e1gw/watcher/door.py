@@ -3,7 +3,7 @@ from __future__ import annotations
 
 import asyncio
 
-from ..faults import words_of_fault
+from e1gw_common.faults import words_of_fault
 
 PATIENCE = 90.0             # seconds for a version to be tried, and for a program of it to carry the trunk
 

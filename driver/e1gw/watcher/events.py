@@ -11,9 +11,9 @@ from collections import deque
 from dataclasses import dataclass
 from typing import Any, Callable, TextIO
 
+from e1gw_common.writers import append_line, open_to_append, write_all
 from ..calls import KEPT, MOST_OCTETS
 from ..events import Event, Level, Report
-from ..writers import append_line, open_to_append, write_all
 from .journal import MOST_WAITING, NOTICE
 
 AGAIN = 60.0                # seconds between two tries to write

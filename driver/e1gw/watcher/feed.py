@@ -13,10 +13,10 @@ from contextlib import closing, suppress
 from dataclasses import dataclass
 from typing import TYPE_CHECKING, Any
 
-from ..faults import words_of_fault
-from ..lines import law_of, read_config, tables_of
+from e1gw_common.faults import words_of_fault
+from e1gw_common.lines import law_of, read_config, tables_of
+from e1gw_common.tasks import Tasks
 from ..log_folder import STATE_ROOM, FolderReader, LogBegun, LogFiles, LogPiece
-from .tasks import Tasks
 
 if TYPE_CHECKING:
     from .held import HeldTrunk

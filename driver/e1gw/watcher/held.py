@@ -11,14 +11,14 @@ from contextlib import contextmanager, suppress
 from dataclasses import dataclass
 from typing import TYPE_CHECKING, Any, Iterator
 
+from e1gw_common.faults import words_of_fault
+from e1gw_common.lines import SEIZURE_WAIT
+from e1gw_common.session import OCTETS_A_SECOND
 from ..events import Event, LogLost, RoleGiven, Tell, TrunkLost, TrunkOpened
-from ..faults import words_of_fault
 from ..holder_state import ACTIVE, INTERFACE, STANDBY, HolderState, TrunkPlaces, state_in
 from ..log_folder import logged_by
 from ..memory import in_memory
-from ..lines import SEIZURE_WAIT
 from ..satop_numbers import number_of_now
-from ..session import OCTETS_A_SECOND
 from .card import CardWatch
 from .connection import connected
 from .door import asked

@@ -4,9 +4,9 @@ from __future__ import annotations
 
 import time
 
+from e1gw_common.tasks import Tasks
 from ..reports import TrunkState
 from .decisions import IdleReloads
-from .tasks import Tasks
 from .trunk import WatchedTrunk
 
 

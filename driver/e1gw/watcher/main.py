@@ -18,22 +18,22 @@ import sys
 from contextlib import suppress
 from typing import NoReturn
 
+from e1gw_common.faults import Parser, options_words, words_of_fault
+from e1gw_common.notifier import Notifier
+from e1gw_common.programs import program_of
+from e1gw_common.tasks import either, every, goes_on
+from e1gw_common.writers import hold_descriptors
 from ..clearing import on_loss_of
-from ..faults import Parser, options_words, words_of_fault
 from ..holder_state import STARTED_BY, TrunkPlaces
 from ..lock import InUse, hold, is_at
-from ..programs import program_of
-from ..writers import hold_descriptors
 from .commands import CannotListen
 from .held import HeldTrunk, state_of, wait_of
 from .journal import ServiceJournal
 from .memo import WatchNote, blocks_told, note_in
 from .note import NoteFiles
-from .notifier import Notifier
 from .options import add_options, feeding_of, folder_now, recording_of, watched_of
 from .pair import open_pair
 from .reader import LogReader, ReadingNote
-from .tasks import either, every, goes_on
 from .watch import TrunkWatch
 
 NAME = 'e1gw-watch'

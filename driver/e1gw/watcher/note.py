@@ -9,8 +9,8 @@ import zlib
 from contextlib import suppress
 from typing import Any, Union, get_args, get_origin, get_type_hints
 
+from e1gw_common.writers import write_at
 from ..log_folder import HEAD_LEN, Head, head_of
-from ..writers import write_at
 
 NOTES = 'note.0', 'note.1'  # the files of the note, in its folder
 ROOM = 64 << 10             # octets that each of them has from the first note on

@@ -7,7 +7,7 @@ import time
 from contextlib import suppress
 from typing import Callable, TypeVar
 
-from ..faults import words_of_fault
+from e1gw_common.faults import words_of_fault
 from ..log_folder import FolderReader, LogFiles, LogNews, LogPair, LogState
 from .journal import NOTICE
 

@@ -12,13 +12,13 @@ from dataclasses import dataclass
 from html import escape
 from typing import Any, Iterable, Mapping, Sequence
 
+from e1gw_common.session import CIRCUITS
+from e1gw_common.session_clock import second_of
 from ..calls import CallLine
 from ..ctl_all import TrunkHere, TrunkLine
 from ..deaf import HEARS_NOTHING, words_of_call, words_of_row
 from ..events import ReadEvent
 from ..metrics import NOT_OPEN, WRONG_RATE, codec_word, head_of, states_of
-from ..session import CIRCUITS
-from ..session_clock import second_of
 
 Rows = Sequence[Sequence[str]]
 Parts = dict[str, Rows]             # the rows of each body of a table, by its id

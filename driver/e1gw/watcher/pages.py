@@ -11,9 +11,9 @@ import time
 from dataclasses import dataclass
 from typing import Any, Awaitable, Callable
 
+from e1gw_common.faults import named
+from e1gw_common.lines import Line
 from ..ctl_all import asked_trunks
-from ..faults import named
-from ..lines import Line
 from ..metrics import exposition, table
 from ..priority import put_behind
 from ..udp_tables import sockets_of, with_sockets

@@ -9,10 +9,11 @@ import logging
 import time
 from typing import Any
 
+from e1gw_common.faults import words_of_fault
+from e1gw_common.tasks import Tasks, goes_on
+from e1gw_common.tls import context_of
 from ..events import Tell
-from ..faults import words_of_fault
 from ..log_folder import LogPair
-from ..tls import context_of
 from .door import heard
 from .feed import FRESH, FeedServer
 from .held import HeldTrunk
@@ -20,7 +21,6 @@ from .journal import NOTICE
 from .options import feeding_of
 from .process import start_of
 from .standby import FedLog, TrunkStandby
-from .tasks import Tasks, goes_on
 
 PATIENCE = 30.0             # seconds for a promotion or its reverse
 GRACE = 5.0                 # seconds for the other machine to be fed the rest

@@ -9,14 +9,14 @@ import time
 from dataclasses import dataclass, replace
 from typing import Callable, Sequence
 
+from e1gw_common.faults import words_of_fault
+from e1gw_common.session import OCTETS_A_SECOND, whole_records
+from e1gw_common.tasks import every, goes_on
 from ..clock import TICK, Clock, ClockFinding
-from ..faults import words_of_fault
-from ..session import OCTETS_A_SECOND, whole_records
 from .journal import NOTICE
 from ..log_folder import LogBegun, LogFiles, LogNews, LogPair, LogPiece, LogState
 from .open_log import OpenLog
 from .recordings import FileBegin, RecordingNote, RecordingWants, TrunkRecording, has_room
-from .tasks import every, goes_on
 
 AGAIN = 60.0                # seconds between two looks whether a ring that has ended can be written again
 MOST_LOST = 0.008           # seconds of the trunk that a program had in hand

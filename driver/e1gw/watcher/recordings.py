@@ -17,11 +17,11 @@ from contextlib import suppress
 from dataclasses import dataclass
 from typing import Any, Callable
 
-from ..lines import WAIT
+from e1gw_common.lines import WAIT
+from e1gw_common.session import OCTETS_A_SECOND
+from e1gw_common.writers import open_to_append, write_all
 from ..priority import put_behind
 from ..recording_ring import FILES, RECORDS, Ring
-from ..session import OCTETS_A_SECOND
-from ..writers import open_to_append, write_all
 
 MOST_BEHIND = 16 << 20      # octets that may wait to be written: half a minute of thirty calls
 EVERY = 0.1                 # seconds between two looks of the thread

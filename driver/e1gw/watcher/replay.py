@@ -8,7 +8,7 @@ from contextlib import suppress
 from dataclasses import dataclass
 from typing import Iterable, Sequence
 
-from ..lines import SEIZURE_WAIT, wait_words
+from e1gw_common.lines import SEIZURE_WAIT, wait_words
 from ..log_folder import LogPair
 from ..memory import in_memory, octets_in
 from .process import run_process, start_process

@@ -16,10 +16,10 @@ import time
 from contextlib import closing, suppress
 from typing import TYPE_CHECKING, Callable, Sequence
 
+from e1gw_common.faults import words_of_fault
+from e1gw_common.session import CIRCUITS, MULTIFRAME, OCTETS_A_SECOND, trunk_record, whole_records
+from e1gw_common.tls import context_of
 from ..events import Fed, NotFed, Tell
-from ..faults import words_of_fault
-from ..session import CIRCUITS, MULTIFRAME, OCTETS_A_SECOND, trunk_record, whole_records
-from ..tls import context_of
 from .feed import (BACK, BLOCKS, CARRIES, END, FRESH, GO, LENGTH, MARK, MOST_HEAD, MOST_PIECE, NOTHING, PATIENCE,
                    PIECE, STATE, TAKES, YOURS, FeedHead, FeedRefused, configured, head_of)
 from ..log_folder import RECORDS_ROOM, STATE_ROOM, LogFiles, LogPair, LogWriter, NoRoom

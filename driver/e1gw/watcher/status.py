@@ -9,18 +9,18 @@ from contextlib import suppress
 from dataclasses import dataclass, replace
 from typing import Any, Callable
 
+from e1gw_common.faults import words_of_fault
+from e1gw_common.lines import Alignment, read_config, tables_of
+from e1gw_common.session import CIRCUITS, OCTETS_A_SECOND
+from e1gw_common.tasks import beat, guarded
 from ..calls import CallLog, CallsNote
 from ..counts import DatagramCounts
 from ..events import Connected, Disconnected, Flows, LineChanged, Placed, Stalled, Tell
-from ..faults import words_of_fault
-from ..lines import Alignment, read_config, tables_of
 from ..call_names import CallNames, note_of
-from ..session import CIRCUITS, OCTETS_A_SECOND
 from ..reports import BadTelling, TrunkState
 from . import decisions
 from .decisions import Flow, FlowChange
 from .missed import MissedReports
-from .tasks import beat, guarded
 from .trunk import WatchedTrunk, place_told
 
 AGAIN = 0.1                 # seconds between two tries to connect

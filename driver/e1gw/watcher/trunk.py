@@ -10,8 +10,8 @@ from abc import ABC, abstractmethod
 from contextlib import AbstractContextManager, suppress
 from typing import Any, Protocol, Sequence
 
-from ..faults import words_of_fault
-from ..session import whole_records
+from e1gw_common.faults import words_of_fault
+from e1gw_common.session import whole_records
 from .connection import connected
 from .blocks import KeptBlocks
 from .missed import MissedReports, told_again

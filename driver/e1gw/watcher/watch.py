@@ -13,6 +13,10 @@ from dataclasses import dataclass, field, replace
 from itertools import islice
 from typing import Any
 
+from e1gw_common.faults import words_of_refusal
+from e1gw_common.lines import Role, State
+from e1gw_common.session import Codec, Command, codec_record, command_record
+from e1gw_common.tasks import Tasks, again, every, guarded, has_failed
 from ..calls import FIELDS, CallsNote, has_line
 from ..clearing import DisconnectWatch, OutageWatch, on_loss_of
 from ..clock import ClockFinding
@@ -20,10 +24,7 @@ from ..counts import DatagramCounts
 from ..deaf import DeafCalls
 from ..events import (LAST, Burst, CallsCleared, CommandGiven, Event, LineChanged, RateChanged, ReadEvent, ReadEvents,
                       Slip, WatchEnded, WrongRate)
-from ..faults import words_of_refusal
-from ..lines import Role, State
 from ..resyncs import Resyncs
-from ..session import Codec, Command, codec_record, command_record
 from .commands import MOST_LINE, CannotListen, CommandServer, unix_listener
 from .connection import NoAnswer, ProgramConnection
 from .blocks import BlockWatch
@@ -34,7 +35,6 @@ from .journal import NOTICE
 from .page import PageNotes
 from .pages import TrunkPages, WebServer, web_listener
 from .status import WATCH, TrunkStatus
-from .tasks import Tasks, again, every, guarded, has_failed
 from .trunk import WatchedTrunk
 
 TICK = 0.24                 # seconds between two looks
