@@ -25,7 +25,7 @@ PYTHON = 'usr/bin/python3.11'
 LIBRARY = 'usr/lib/python3.11'
 # What the programs and the scenes import, also later.
 IMPORTED = ('compileall', 'encodings.ascii', 'encodings.idna', 'encodings.latin_1', 'e1gw.__main__', 'e1gw.config',
-            'e1gw.ctl', 'e1gw.exchange', 'e1gw.holder.main', 'e1gw.testing.openr2', 'e1gw.testing.service',
+            'e1gw.ctl', 'e1gw.exchange', 'e1gw.holder.main', 'e1gw_testing.openr2', 'e1gw_testing.service',
             'e1gw.tools.exchange', 'e1gw.trial', 'e1gw.watcher.main', 'shlex')
 COPIED = ('usr/sbin/dahdi_cfg', 'bin/busybox', PYTHON, 'bin/journalctl', 'bin/systemctl', 'bin/systemd-sysusers',
           'bin/udevadm', 'lib/systemd/systemd', 'lib/systemd/systemd-journald')

@@ -23,8 +23,8 @@ from e1gw.card_opening import open_device
 from e1gw.dahdi import Alarm, Blocks
 from e1gw.events import CardAlarm, CardAlarmChanged
 from e1gw_common.lines import UNKNOWN
-from e1gw.testing.openr2 import OpenR2
-from e1gw.testing.service import ask
+from e1gw_testing.openr2 import OpenR2
+from e1gw_testing.service import ask
 
 # Seconds between the starts of two trunks: half of those between two states that a program writes into its log, each in
 # 10 ms. The two would have a machine each; here both have one processor, and would write theirs at the same moment.

@@ -12,8 +12,8 @@ from collections.abc import Callable, Iterator
 from functools import partial
 
 import paths    # noqa: F401 (makes e1gw known)
-from e1gw.testing.datagrams import CIRCUIT, CONFIG, SECONDS, Wrongs
-from e1gw.testing.ports import free_ports
+from e1gw_testing.datagrams import CIRCUIT, CONFIG, SECONDS, Wrongs
+from e1gw_testing.ports import free_ports
 
 TRACED = ('open,openat,openat2,creat,rename,renameat,renameat2,unlink,unlinkat,rmdir,mkdir,mkdirat,link,linkat,symlink,'
           'symlinkat,chmod,fchmodat,truncate,flock,fsync,fdatasync,socket,socketpair,bind,connect,execve,read')

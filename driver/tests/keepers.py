@@ -20,7 +20,7 @@ from e1gw.holder_state import TrunkPlaces
 from e1gw.log_folder import LogFiles
 from e1gw_common.session import (FRAME, MULTIFRAME, Codec, Command, Kind, Packet, codec_record, command_record,
                                  packet_of, records_in, trunk_record)
-from e1gw.testing.ports import free_ports
+from e1gw_testing.ports import free_ports
 
 NO_EFFECT = codec_record(1, Codec.G726_16, 1)    # no payload type of the codec: it is refused
 CIRCUITS = range(1, 31)

@@ -16,7 +16,7 @@ from typing import Any, Iterator, Mapping
 from .support import SECONDS
 from .test_trunk import aligned, call
 from .world import World, config_of
-from e1gw.testing.ports import free_port
+from e1gw_testing.ports import free_port
 
 BROWSER = 'chromium', '--headless', '--no-sandbox', '--disable-gpu', '--virtual-time-budget=4000', '--dump-dom'
 

@@ -25,9 +25,9 @@ from .start import PROGRAM
 from e1gw.__main__ import COMMANDS
 from e1gw.exchange import Exchange
 from e1gw_common.session import Kind, records_in
-from e1gw.testing import service
-from e1gw.testing.service import Service
-from e1gw.testing.waits import SECONDS, eventually, until
+from e1gw_testing import service
+from e1gw_testing.service import Service
+from e1gw_testing.waits import SECONDS, eventually, until
 
 TOP = os.path.dirname(os.path.dirname(os.path.dirname(os.path.abspath(__file__))))
 sys.dont_write_bytecode = not sys.pycache_prefix or 'E1GW_MUTANT' in os.environ

@@ -43,7 +43,7 @@ class CommandNameTests(support.FolderCase):
         self.assertEqual(project['tool']['setuptools']['script-files'], [f'bin/{name}' for name in programs])
         folders = {path[len(DRIVER) + 1:].replace('/', '.') for path, _, names in os.walk(DRIVER)
                    if '__init__.py' in names}
-        self.assertEqual(set(project['tool']['setuptools']['packages']), folders - {'e1gw.testing', 'tests'})
+        self.assertEqual(set(project['tool']['setuptools']['packages']), folders - {'e1gw_testing', 'tests'})
 
     def test_each_program_runs_its_command(self) -> None:
         """Also by a link of another name."""

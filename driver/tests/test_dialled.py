@@ -7,7 +7,7 @@ import unittest
 
 from . import support
 from .world import World, config_of
-from e1gw.testing.openr2 import NoOpenR2, OpenR2, build
+from e1gw_testing.openr2 import NoOpenR2, OpenR2, build
 
 FOLDER = tempfile.TemporaryDirectory()
 SECOND = 500            # multiframes

@@ -20,8 +20,8 @@ from . import support, world
 from .support import SECONDS
 from .test_trunk import aligned
 from e1gw.exchange import ACKNOWLEDGED, IDLE, SEIZED
-from e1gw.testing.datagrams import PACKET, packets, speech
-from e1gw.testing.ports import free_ports
+from e1gw_testing.datagrams import PACKET, packets, speech
+from e1gw_testing.ports import free_ports
 
 EXCHANGE = [sys.executable, '-B', os.path.join(support.TOP, 'bin', 'e1gw-exchange')]
 FRONT_END = os.path.join(support.TOP, 'examples', 'sip', 'front_end')

@@ -31,7 +31,7 @@ from e1gw.holder.sockets import HeldSockets, address_in, name_of
 from e1gw.holder.store import Store
 from e1gw.holder.version import Tried, Versions, tried_in, version_of
 from e1gw.memory import in_memory
-from e1gw.testing.ports import free_ports
+from e1gw_testing.ports import free_ports
 from e1gw.trunks import Stream
 
 TRIED = Tried('law = "A"\n', {1: ('one', 'bare'), 2: ('two', 'two')}, {1: ('127.0.0.1', 5000)}, 'host', '0.1.0')

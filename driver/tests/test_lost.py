@@ -20,7 +20,7 @@ from e1gw.calls import CallLine, read_calls
 from e1gw.ctl_all import TrunkLine
 from e1gw_common.lost import AHEAD, IN_A_ROW, WINDOW, ReceivedNumbers
 from e1gw_common.session import datagram_record
-from e1gw.testing.ports import free_port, free_ports
+from e1gw_testing.ports import free_port, free_ports
 
 COUNT, FIRST = 120, 65_500          # packets of a call, and the first number
 Plan = Iterable[tuple[int, int, int, int]]      # turns of 20 ms, each with number, source and payload type of a packet

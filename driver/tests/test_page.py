@@ -30,7 +30,7 @@ from e1gw.watcher.options import kept_of
 from e1gw.watcher.page import (POLICY, circuit_row, ended_row, length, message_of, page_of, trunk_row,
                                trunks_page)
 from e1gw.watcher.pages import EventReaders, PageRequest
-from e1gw.testing.ports import free_port
+from e1gw_testing.ports import free_port
 from e1gw.udp_tables import sockets_of
 
 EVIL = '"><script>alert(1)</script><img src=x onerror=alert(1)>\'&</td></table>'

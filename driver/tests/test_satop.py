@@ -11,7 +11,7 @@ from .picture_made import pcap, udp
 from .support import SECONDS
 from e1gw import satop
 from e1gw.satop import SatopCondition, counts_of
-from e1gw.testing.ports import free_port
+from e1gw_testing.ports import free_port
 
 FIELDS = [f'pwsatop.{name}' for name in ('cw.rbit', 'cw.lbit', 'cw.rsv', 'cw.frag', 'cw.length', 'payload.len',
                                          'cw.seqno')]

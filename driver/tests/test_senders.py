@@ -9,7 +9,7 @@ from . import support
 from .test_trunk import aligned, call
 from .world import World
 from e1gw_common.session import Packet
-from e1gw.testing.ports import free_ports
+from e1gw_testing.ports import free_ports
 
 PEER, STRANGER = 0x31, 0x72             # octets of their speech
 PACKET = 10                             # multiframes of a packet

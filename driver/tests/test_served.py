@@ -14,7 +14,7 @@ from .hand_clock import threads_of
 from .support import SECONDS, octets_in
 from e1gw.exchange import SEIZED, ServeProcess, slot_of
 from e1gw_common.session import CIRCUITS, FRAME, Kind, Packet, datagram_record, records_in, trunk_record
-from e1gw.testing.ports import free_ports
+from e1gw_testing.ports import free_ports
 
 Step = tuple[list[tuple[int, bytes]], bytes]        # datagrams of circuits, and the octets after them
 Exchanges = Callable[[bytes], bytes]                # gives octets; returns those that are sent

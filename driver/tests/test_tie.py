@@ -17,7 +17,7 @@ from .properties import PropertyCase
 from .ties import ClockedCase, StandInDriver, said_by_tie
 from e1gw_common.lines import Role, State
 from e1gw_common.session import CIRCUITS
-from e1gw.testing.ports import free_port
+from e1gw_testing.ports import free_port
 from e1gw.tie.circuit import CircuitEnd, LinkState, TieCircuit
 from e1gw.tie.events import CallOver, Ended, SiteCame, SiteGone, Warned
 from e1gw.tie.main import main, parser, sign_of_life, work

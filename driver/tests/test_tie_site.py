@@ -18,7 +18,7 @@ from .ties import ANSWER, G726, IDLE, PCMA, SEIZED, ClockedCase, StandInDriver, 
 from e1gw.events import Report
 from e1gw_common.lines import Role, State
 from e1gw_common.session import CIRCUITS
-from e1gw.testing.ports import free_port
+from e1gw_testing.ports import free_port
 from e1gw.tie.main import ANYBODY
 from e1gw.tie.messages import Greeting, Message, SiteState, encode_message, message_of
 from e1gw.tie.site import GONE, STRANGERS, Reasons, Site, has_name, one_too_many

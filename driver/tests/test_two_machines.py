@@ -24,8 +24,8 @@ from .world import children, trunk_command, words_of
 from e1gw.holder_state import TrunkPlaces
 from e1gw.log_folder import FolderReader, LogFiles
 from e1gw_common.session import MULTIFRAME, OCTETS_A_SECOND, packet_of
-from e1gw.testing.ports import free_port
-from e1gw.testing.service import answer_of, ask
+from e1gw_testing.ports import free_port
+from e1gw_testing.service import answer_of, ask
 from e1gw.watcher.feed import TICK
 
 ADDRESSES = {'a': '127.0.0.11', 'b': '127.0.0.12'}      # of the machines

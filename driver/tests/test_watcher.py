@@ -21,9 +21,9 @@ from .support import SECONDS, octets_in
 from e1gw.exchange import IDLE
 from e1gw.holder_state import STARTED_BY, TrunkPlaces
 from e1gw_common.session import Command, Packet
-from e1gw.testing.ports import free_port
-from e1gw.testing.service import ask
-from e1gw.testing.waits import not_within
+from e1gw_testing.ports import free_port
+from e1gw_testing.service import ask
+from e1gw_testing.waits import not_within
 from e1gw.watcher.memo import WatchNote, note_in
 from e1gw.watcher.note import NoteFiles
 

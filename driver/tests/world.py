@@ -19,8 +19,8 @@ from .support import SECONDS
 from e1gw.holder.options import FLAGS, TEXTS
 from e1gw.exchange import ACKNOWLEDGED, ANSWERED, IDLE, SEIZED
 from e1gw_common.session import MULTIFRAME
-from e1gw.testing.ports import free_ports
-from e1gw.testing.service import ask
+from e1gw_testing.ports import free_ports
+from e1gw_testing.service import ask
 
 LAUNCHER = support.launcher('trunk')
 ANSWERS_AFTER = 20          # multiframes
