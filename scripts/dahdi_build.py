@@ -24,7 +24,7 @@ CONFIG = ('DAHDI_BUILD_ALL=', 'HOTPLUG_FIRMWARE=yes', 'CONFIG_DAHDI=m', 'CONFIG_
 PYTHON = 'usr/bin/python3.11'
 LIBRARY = 'usr/lib/python3.11'
 # What the programs and the scenes import, also later.
-IMPORTED = ('compileall', 'encodings.ascii', 'encodings.idna', 'encodings.latin_1', 'e1gw.__main__', 'e1gw.config',
+IMPORTED = ('compileall', 'encodings.ascii', 'encodings.idna', 'encodings.latin_1', 'e1gw_common.start', 'e1gw.config',
             'e1gw.ctl', 'e1gw.exchange', 'e1gw.holder.main', 'e1gw_testing.openr2', 'e1gw_testing.service',
             'e1gw.tools.exchange', 'e1gw.trial', 'e1gw.watcher.main', 'shlex')
 COPIED = ('usr/sbin/dahdi_cfg', 'bin/busybox', PYTHON, 'bin/journalctl', 'bin/systemctl', 'bin/systemd-sysusers',

@@ -7,7 +7,7 @@ import os
 import sys
 from typing import NoReturn
 
-from e1gw.__main__ import load
+from e1gw_common.start import load
 from . import hand_clock, limits
 
 # A program that does so: the Python, the folder of this package, the command.

@@ -14,7 +14,7 @@ from pathlib import Path
 from . import support
 from .support import ran
 from e1gw import ctl
-from e1gw.__main__ import COMMANDS
+from e1gw_common.start import COMMANDS
 from e1gw.holder.options import FLAGS, TEXTS
 from e1gw.picture import main as picture
 from e1gw.watcher import commands as control, main as watcher
@@ -52,11 +52,6 @@ class CommandNameTests(support.FolderCase):
         os.symlink(os.path.join(BIN, 'e1gw-ctl'), self.path('west'))
         status, said, _ = ran(self.path('west'), '--help')
         self.assertEqual((status, 'e1gw-ctl' in said), (0, True))
-        self.assertEqual(ran(sys.executable, '-m', 'e1gw', 'ctl', '--help', env=AROUND), (0, said, ''))
-
-    def test_another_name(self) -> None:
-        status, said, fault = ran(sys.executable, '-m', 'e1gw', 'dance', env=AROUND)
-        self.assertEqual((status, said, fault.count('\n'), 'records, tie, trunk, watch' in fault), (2, '', 1, True))
 
 
 class ProgramBuiltTests(support.FolderCase):

@@ -1,6 +1,4 @@
-"""Starts a command: python3 -m e1gw NAME [WORD..], as the program bin/e1gw-NAME does.
-
-The names are {names}."""
+"""Starts a command, as the programs bin/e1gw-NAME do."""
 import importlib
 import os
 import signal
@@ -10,25 +8,19 @@ from typing import Any, NoReturn
 
 # The module that has main(), by the command's name without e1gw-.
 COMMANDS = {
-    'call': 'tools.call', 'config': 'config', 'ctl': 'ctl', 'exchange': 'tools.exchange',
-    'pcap': 'tools.pcap', 'picture': 'picture.main', 'records': 'tools.records', 'tie': 'tie.main',
-    'trunk': 'holder.main', 'watch': 'watcher.main'}
+    'call': 'e1gw.tools.call', 'config': 'e1gw.config', 'ctl': 'e1gw.ctl', 'exchange': 'e1gw.tools.exchange',
+    'pcap': 'e1gw.tools.pcap', 'picture': 'e1gw.picture.main', 'records': 'e1gw.tools.records',
+    'tie': 'e1gw.tie.main', 'trunk': 'e1gw.holder.main', 'watch': 'e1gw.watcher.main'}
 # e1gw-trunk catches these signals. As it begins they wait until it does: they would end it, in systemd's view in order.
 HOLDER = 'trunk'
 CAUGHT = (signal.SIGHUP, signal.SIGUSR1, signal.SIGUSR2, signal.SIGTERM, signal.SIGINT)
-
-
-def refuse(what: str) -> NoReturn:
-    """Ends with status 2: there is no such command."""
-    print(f'{what}; there are {", ".join(COMMANDS)}', file=sys.stderr)
-    sys.exit(2)
 
 
 def load(name: str) -> ModuleType:
     """The module of a command."""
     if name == HOLDER:
         signal.pthread_sigmask(signal.SIG_BLOCK, CAUGHT)
-    return importlib.import_module(f'e1gw.{COMMANDS[name]}')
+    return importlib.import_module(COMMANDS[name])
 
 
 def complete() -> None:
@@ -51,19 +43,3 @@ def start(name: str) -> NoReturn:
     if '_ARGCOMPLETE' in os.environ:
         complete()
     sys.exit(load(name).main())
-
-
-def main() -> None:
-    """Runs the command that the first word names."""
-    name = sys.argv[1] if sys.argv[1:] else '--help'
-    if name in ('-h', '--help'):
-        print((__doc__ or '').format(names=', '.join(COMMANDS)))
-    elif name in COMMANDS:
-        sys.argv[:2] = [f'e1gw-{name}']
-        start(name)
-    else:
-        refuse(f'e1gw: no command {name}')
-
-
-if __name__ == '__main__':
-    main()
