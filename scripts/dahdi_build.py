@@ -24,9 +24,9 @@ CONFIG = ('DAHDI_BUILD_ALL=', 'HOTPLUG_FIRMWARE=yes', 'CONFIG_DAHDI=m', 'CONFIG_
 PYTHON = 'usr/bin/python3.11'
 LIBRARY = 'usr/lib/python3.11'
 # What the programs and the scenes import, also later.
-IMPORTED = ('compileall', 'encodings.ascii', 'encodings.idna', 'encodings.latin_1', 'e1gw_common.start', 'e1gw.config',
-            'e1gw.ctl', 'e1gw.exchange', 'e1gw.holder.main', 'e1gw_testing.openr2', 'e1gw_testing.service',
-            'e1gw.tools.exchange', 'e1gw.trial', 'e1gw.watcher.main', 'shlex')
+IMPORTED = ('compileall', 'encodings.ascii', 'encodings.idna', 'encodings.latin_1', 'e1gw_common.start',
+            'e1gw_tools.config', 'e1gw.ctl', 'e1gw_tools.far_exchange', 'e1gw.holder.main', 'e1gw_testing.openr2',
+            'e1gw_testing.service', 'e1gw_tools.exchange', 'e1gw.trial', 'e1gw.watcher.main', 'shlex')
 COPIED = ('usr/sbin/dahdi_cfg', 'bin/busybox', PYTHON, 'bin/journalctl', 'bin/systemctl', 'bin/systemd-sysusers',
           'bin/udevadm', 'lib/systemd/systemd', 'lib/systemd/systemd-journald')
 FILES = ('lib/udev/rules.d/50-udev-default.rules', 'lib/udev/rules.d/60-dahdi.rules',

@@ -9,8 +9,8 @@ import threading
 from collections.abc import Iterator
 from typing import Any
 
-from e1gw.exchange import ACKNOWLEDGED, Exchange, ServeProcess
 from e1gw_common.session import Codec, Packet
+from e1gw_tools.far_exchange import ACKNOWLEDGED, Exchange, ServeProcess
 from .ports import free_ports
 
 Wrongs = Iterator[str]      # what is not as it must be

@@ -13,9 +13,9 @@ from collections import Counter
 from contextlib import ExitStack, closing, suppress
 from enum import Enum
 
-from e1gw.exchange import SEIZED, Exchange
 from e1gw.log_folder import LogFiles
 from e1gw_common.session import MULTIFRAME, Codec, Command, Kind, command_record, records_in, whole_records
+from e1gw_tools.far_exchange import SEIZED, Exchange
 from .datagrams import BITS, PACKET, SECONDS, bound, packets, payload_of
 from .ports import free_ports
 

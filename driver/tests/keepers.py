@@ -15,7 +15,7 @@ from typing import Any
 from . import support
 from .support import SECONDS
 from .world import trunk_command
-from e1gw.exchange import ACKNOWLEDGED, ANSWERED, SEIZED
+from e1gw_tools.far_exchange import ACKNOWLEDGED, ANSWERED, SEIZED
 from e1gw.holder_state import TrunkPlaces
 from e1gw.log_folder import LogFiles
 from e1gw_common.session import (FRAME, MULTIFRAME, Codec, Command, Kind, Packet, codec_record, command_record,

@@ -17,7 +17,7 @@ from dataclasses import dataclass, field, replace
 
 from .support import TOP, Exchange, config_text, program, run
 
-from e1gw.exchange import ACKNOWLEDGED, ANSWERED, IDLE
+from e1gw_tools.far_exchange import ACKNOWLEDGED, ANSWERED, IDLE
 from e1gw_common.g711 import TONES, VALUES
 from e1gw.picture.facts import Facts
 from e1gw.picture.reading import SessionReading, rows_of

@@ -23,7 +23,7 @@ from typing import Any, Callable, Iterator, Mapping
 from . import limits
 from .start import PROGRAM
 from e1gw_common.start import COMMANDS
-from e1gw.exchange import Exchange
+from e1gw_tools.far_exchange import Exchange
 from e1gw_common.session import Kind, records_in
 from e1gw_testing import service
 from e1gw_testing.service import Service

@@ -19,7 +19,7 @@ from .properties import PropertyCase
 from .test_trunk import aligned, call
 from .world import World, config_of
 from e1gw.ctl_all import TrunkLine
-from e1gw.exchange import IDLE, SEIZED
+from e1gw_tools.far_exchange import IDLE, SEIZED
 from e1gw_common.lines import IN_CALL, Line, Role, State
 from e1gw.metrics import exposition
 from e1gw.watcher.blocks import BY_OPERATOR, BlockWatch, BlockedCircuits, KeptBlocks

@@ -20,8 +20,8 @@ from e1gw_common.packets import datagrams
 from e1gw.picture.facts import Facts
 from e1gw_common.session import OCTETS_A_SECOND, Command, Kind, datagram_record, records_in
 from e1gw_common.session_clock import Break, FileNote, SessionClock, breaks_of
-from e1gw.tools.call import CallCut, CircuitSide, EndedCall, begin_of
-from e1gw.tools.pcap import Announcements, Timed, checksum, configured_ends, packet, packets_of, write_capture
+from e1gw_tools.call import CallCut, CircuitSide, EndedCall, begin_of
+from e1gw_tools.pcap import Announcements, Timed, checksum, configured_ends, packet, packets_of, write_capture
 
 COMMAND = os.path.join(support.TOP, 'bin', 'e1gw-call')
 FRAME = 32

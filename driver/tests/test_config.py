@@ -10,8 +10,8 @@ from typing import Any
 from unittest import mock
 
 from . import support
-from e1gw.config import main, options_text, parser, plan_of, text_of
-from e1gw.config_ports import is_bound
+from e1gw_tools.config import main, options_text, parser, plan_of, text_of
+from e1gw_tools.config_ports import is_bound
 
 
 class ConfigCase(support.FolderCase):
@@ -19,7 +19,7 @@ class ConfigCase(support.FolderCase):
         """No port of the machine is bound, whatever runs beside."""
         super().setUp()
         self.bound = set[int]()
-        patched = mock.patch('e1gw.config.is_bound', lambda host, port, kind=None: port in self.bound)
+        patched = mock.patch('e1gw_tools.config.is_bound', lambda host, port, kind=None: port in self.bound)
         patched.start()
         self.addCleanup(patched.stop)
 

@@ -8,7 +8,7 @@ import socket
 from unittest import mock
 
 from . import support
-from e1gw.config import main
+from e1gw_tools.config import main
 
 ONE = 'law = "A"\n[[circuit]]\nnumber = 1\n'
 

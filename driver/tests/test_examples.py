@@ -19,7 +19,7 @@ from unittest import mock
 from . import support, world
 from .support import SECONDS
 from .test_trunk import aligned
-from e1gw.exchange import ACKNOWLEDGED, IDLE, SEIZED
+from e1gw_tools.far_exchange import ACKNOWLEDGED, IDLE, SEIZED
 from e1gw_testing.datagrams import PACKET, packets, speech
 from e1gw_testing.ports import free_ports
 

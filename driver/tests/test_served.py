@@ -12,7 +12,7 @@ from typing import Callable, Iterator, Sequence
 from . import support
 from .hand_clock import threads_of
 from .support import SECONDS, octets_in
-from e1gw.exchange import SEIZED, ServeProcess, slot_of
+from e1gw_tools.far_exchange import SEIZED, ServeProcess, slot_of
 from e1gw_common.session import CIRCUITS, FRAME, Kind, Packet, datagram_record, records_in, trunk_record
 from e1gw_testing.ports import free_ports
 

@@ -16,7 +16,7 @@ from typing import Any, Callable, TypeVar
 from . import support
 from .support import octets_in
 from .world import World, children, config_of, trunk_command
-from e1gw.exchange import SEIZED
+from e1gw_tools.far_exchange import SEIZED
 from e1gw_common.session import FRAME, MULTIFRAME, trunk_record
 from e1gw.trunks import host_and_port
 

@@ -18,7 +18,7 @@ from . import limits, support
 from .holders import HolderCase
 from .keepers import CIRCUITS
 from .support import SECONDS, octets_in
-from e1gw.exchange import IDLE
+from e1gw_tools.far_exchange import IDLE
 from e1gw.holder_state import STARTED_BY, TrunkPlaces
 from e1gw_common.session import Command, Packet
 from e1gw_testing.ports import free_port

@@ -17,7 +17,7 @@ from typing import Any, Callable, Mapping, Self
 from . import limits, support
 from .support import SECONDS
 from e1gw.holder.options import FLAGS, TEXTS
-from e1gw.exchange import ACKNOWLEDGED, ANSWERED, IDLE, SEIZED
+from e1gw_tools.far_exchange import ACKNOWLEDGED, ANSWERED, IDLE, SEIZED
 from e1gw_common.session import MULTIFRAME
 from e1gw_testing.ports import free_ports
 from e1gw_testing.service import ask

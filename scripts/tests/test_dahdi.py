@@ -11,7 +11,7 @@ import paths    # noqa: F401 (makes e1gw known)
 from . import loaded
 from dahdi_far import Multiframes, with_slot_0, without_slot_0
 from dahdi_talk import HEAD, OCTETS, Comparison, Way, compare
-from e1gw.exchange import Exchange, is_multiframe
+from e1gw_tools.far_exchange import Exchange, is_multiframe
 
 SILENCE = b'\xd5' * 70
 

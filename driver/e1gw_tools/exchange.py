@@ -19,7 +19,7 @@ import time
 
 from e1gw_common.faults import Parser
 from e1gw_common.session import MULTIFRAME
-from ..exchange import ACKNOWLEDGED, ANSWERED, IDLE, SEIZED, Exchange
+from .far_exchange import ACKNOWLEDGED, ANSWERED, IDLE, SEIZED, Exchange
 
 STEP = 0.002            # seconds of a multiframe
 ACKNOWLEDGES, ANSWERS = 10, 500

@@ -1,1 +1,0 @@
-"""Commands for records and captures, and an exchange to try a trunk with."""

@@ -1,0 +1,1 @@
+"""Commands for configurations, records and captures, and an exchange to try a trunk with."""
