@@ -9,7 +9,7 @@ from typing import Any, NoReturn
 # The module that has main(), by the command's name without e1gw-.
 COMMANDS = {
     'call': 'e1gw_tools.call', 'config': 'e1gw_tools.config', 'ctl': 'e1gw.ctl', 'exchange': 'e1gw_tools.exchange',
-    'pcap': 'e1gw_tools.pcap', 'picture': 'e1gw.picture.main', 'records': 'e1gw_tools.records',
+    'pcap': 'e1gw_tools.pcap', 'picture': 'e1gw_picture.main', 'records': 'e1gw_tools.records',
     'tie': 'e1gw.tie.main', 'trunk': 'e1gw.holder.main', 'watch': 'e1gw.watcher.main'}
 # e1gw-trunk catches these signals. As it begins they wait until it does: they would end it, in systemd's view in order.
 HOLDER = 'trunk'

@@ -26,18 +26,18 @@ from functools import partial
 from typing import Any, NamedTuple
 
 from e1gw.calls import CallLine, csv_line, moment, read_calls
-from e1gw.picture.beginning import Begun, begin_at
-from e1gw.picture.facts import SECOND, Facts
-from e1gw.picture.main import Progress, facts_of
-from e1gw.picture.page import draw
-from e1gw.picture.reading import SessionReading
-from e1gw.picture.svg import duration
 from e1gw_common.faults import Parser, words_of_fault
 from e1gw_common.frames import FrameSearch
 from e1gw_common.lines import IN_CALL, read_config
 from e1gw_common.session import FRAME, SAMPLES_A_SECOND, BadSession, Kind, Record, records_for, records_in, refusal_of
 from e1gw_common.session_clock import Break, SessionClock, second_of
 from e1gw_common.session_files import InputError, RecordedSession, kept_between
+from e1gw_picture.beginning import Begun, begin_at
+from e1gw_picture.facts import SECOND, Facts
+from e1gw_picture.main import Progress, facts_of
+from e1gw_picture.page import draw
+from e1gw_picture.reading import SessionReading
+from e1gw_picture.svg import duration
 from .pcap import Announcements, PlacedRecords, Timed, configured_ends, packets_of, write_capture
 from .records import write_wave
 

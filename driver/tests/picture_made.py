@@ -19,9 +19,9 @@ from .support import TOP, Exchange, config_text, program, run
 
 from e1gw_tools.far_exchange import ACKNOWLEDGED, ANSWERED, IDLE
 from e1gw_common.g711 import TONES, VALUES
-from e1gw.picture.facts import Facts
-from e1gw.picture.reading import SessionReading, rows_of
-from e1gw.picture.replay import Replay
+from e1gw_picture.facts import Facts
+from e1gw_picture.reading import SessionReading, rows_of
+from e1gw_picture.replay import Replay
 from e1gw_common.session import (OCTETS_A_SECOND, Command, Kind, Packet, command_record, datagram_record, records_in,
                                  trunk_record)
 

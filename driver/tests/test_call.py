@@ -17,7 +17,7 @@ from .properties import PropertyCase
 from .test_picture_beginning import BEGIN, RingCase
 from e1gw.calls import FIELDS, CallLine, csv_line, moment
 from e1gw_common.packets import datagrams
-from e1gw.picture.facts import Facts
+from e1gw_picture.facts import Facts
 from e1gw_common.session import OCTETS_A_SECOND, Command, Kind, datagram_record, records_in
 from e1gw_common.session_clock import Break, FileNote, SessionClock, breaks_of
 from e1gw_tools.call import CallCut, CircuitSide, EndedCall, begin_of

@@ -16,7 +16,7 @@ from .support import ran
 from e1gw import ctl
 from e1gw_common.start import COMMANDS
 from e1gw.holder.options import FLAGS, TEXTS
-from e1gw.picture import main as picture
+from e1gw_picture import main as picture
 from e1gw.watcher import commands as control, main as watcher
 from e1gw.tie import main as tie
 

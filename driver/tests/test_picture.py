@@ -14,12 +14,12 @@ from .picture_made import (CAPTURED, TROUBLES, MadeSession, PictureSender, captu
                            page_of, read_session, recorded, rtp)
 from .support import TOP, FolderCase, run, text_of
 
-from e1gw.picture.facts import MOST, RANK, Facts, Row, Spans, Wire
-from e1gw.picture.findings import findings
-from e1gw.picture.page import MOST as MOST_OCTETS
-from e1gw.picture.page import draw
-from e1gw.picture.sound import HeardSamples
-from e1gw.picture.svg import Scale, Sheet, apart, clock, duration, runs
+from e1gw_picture.facts import MOST, RANK, Facts, Row, Spans, Wire
+from e1gw_picture.findings import findings
+from e1gw_picture.page import MOST as MOST_OCTETS
+from e1gw_picture.page import draw
+from e1gw_picture.sound import HeardSamples
+from e1gw_picture.svg import Scale, Sheet, apart, clock, duration, runs
 from e1gw_common.session_clock import Break
 from e1gw_common.session import OCTETS_A_SECOND, Codec, Kind, codec_record, records_in, trunk_record
 
@@ -178,7 +178,7 @@ class PicturePageTests(unittest.TestCase):
 
     def test_under_two_megabytes_however_long(self) -> None:
         """As ten circuits are within a third of that."""
-        with mock.patch('e1gw.picture.page.MOST', MOST_OCTETS // 3):
+        with mock.patch('e1gw_picture.page.MOST', MOST_OCTETS // 3):
             text = busy_page(10)
         self.assertLess(len(text.encode()), MOST_OCTETS // 3)
         self.checked(text)

@@ -12,10 +12,10 @@ from . import support
 from .picture_made import MadeSession, PictureSender, coded, packets, page_of
 from e1gw.recording_ring import Ring
 from e1gw_common.session_files import kept
-from e1gw.picture.beginning import begin
-from e1gw.picture.facts import Facts
-from e1gw.picture.main import gathered
-from e1gw.picture.why import finding_lines, last_facts
+from e1gw_picture.beginning import begin
+from e1gw_picture.facts import Facts
+from e1gw_picture.main import gathered
+from e1gw_picture.why import finding_lines, last_facts
 from e1gw_common.session import OCTETS_A_SECOND, Kind, trunk_record
 
 

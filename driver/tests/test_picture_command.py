@@ -16,7 +16,7 @@ from .support import FolderCase, program, text_of
 from .picture_made import (BEGIN, COMMAND, PEER, MadeSession, PictureSender, apart, icmp, page_of, pcap, recorded,
                            udp)
 
-from e1gw.picture import main
+from e1gw_picture import main
 from e1gw_common.packets import BadCapture, Datagram, datagrams
 from e1gw_common.session import OCTETS_A_SECOND, Kind, records_in, trunk_record
 from e1gw_common.session_files import RecordedSession

@@ -10,10 +10,10 @@ from .support import FolderCase, program, run
 from .picture_made import coded, g726, of_aal2, of_codec, packets, read_session, recorded
 
 from e1gw_common.g711 import OTHER, TONES, VALUES, level, power
-from e1gw.picture.facts import BITS
-from e1gw.picture.findings import findings
-from e1gw.picture.orders import Orders, reordered
-from e1gw.picture.sound import EACH, HeardSamples, ListeningTimes, heard
+from e1gw_picture.facts import BITS
+from e1gw_picture.findings import findings
+from e1gw_picture.orders import Orders, reordered
+from e1gw_picture.sound import EACH, HeardSamples, ListeningTimes, heard
 from e1gw_common.session import Kind, packet_of, records_in
 
 LAWS = ('A', 'mu')

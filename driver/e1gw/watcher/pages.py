@@ -263,7 +263,7 @@ class SlowPage:
 
 async def picture_of(words: list[str]) -> bytes | None:
     """What a process behind the calls draws by the command with these words; None if it takes too long."""
-    command = python_words('picture.main', *words)
+    command = python_words('e1gw_picture.main', *words)
     process = await start_process(command[0], command)
     put_behind(process.pid, NICE)
     status, _, drawn = await run_process(process, b'', DRAWN)

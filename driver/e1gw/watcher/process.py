@@ -13,7 +13,7 @@ from ..crc4 import COUNTS
 PATIENCE = 5.0              # seconds for one that was killed: it may wait for a device
 TOTALS = 'records', 'octets', 'datagrams', 'dropped', 'port_faults', 'discarded_multiframes'
 AT_END = {*TOTALS, *COUNTS, 'unreported'}       # what a program counts at its end
-PYTHON = 'import sys; sys.path[:0] = [sys.argv.pop(1)]; from e1gw.{} import main; sys.exit(main())'
+PYTHON = 'import sys; sys.path[:0] = [sys.argv.pop(1)]; from {} import main; sys.exit(main())'
 TOP = os.path.dirname(os.path.dirname(os.path.dirname(os.path.abspath(__file__))))
 
 
@@ -55,5 +55,5 @@ async def kill_process(process: Process) -> None:
 
 
 def python_words(module: str, *words: str) -> list[str]:
-    """The command line of a module of this package, which has main()."""
+    """The command line of a module that has main()."""
     return [sys.executable, '-BP', '-c', PYTHON.format(module), TOP, *words]
