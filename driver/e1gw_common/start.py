@@ -10,7 +10,7 @@ from typing import Any, NoReturn
 COMMANDS = {
     'call': 'e1gw_tools.call', 'config': 'e1gw_tools.config', 'ctl': 'e1gw.ctl', 'exchange': 'e1gw_tools.exchange',
     'pcap': 'e1gw_tools.pcap', 'picture': 'e1gw_picture.main', 'records': 'e1gw_tools.records',
-    'tie': 'e1gw.tie.main', 'trunk': 'e1gw.holder.main', 'watch': 'e1gw.watcher.main'}
+    'tie': 'e1gw_tie.main', 'trunk': 'e1gw.holder.main', 'watch': 'e1gw.watcher.main'}
 # e1gw-trunk catches these signals. As it begins they wait until it does: they would end it, in systemd's view in order.
 HOLDER = 'trunk'
 CAUGHT = (signal.SIGHUP, signal.SIGUSR1, signal.SIGUSR2, signal.SIGTERM, signal.SIGINT)

@@ -18,7 +18,7 @@ from e1gw_common.start import COMMANDS
 from e1gw.holder.options import FLAGS, TEXTS
 from e1gw_picture import main as picture
 from e1gw.watcher import commands as control, main as watcher
-from e1gw.tie import main as tie
+from e1gw_tie import main as tie
 
 BIN, DRIVER = (os.path.join(support.TOP, name) for name in ('bin', 'driver'))
 AROUND = os.environ | {'PYTHONPATH': DRIVER}

@@ -14,7 +14,7 @@ from .keepers import CIRCUITS, KeeperCase
 from e1gw.watcher.commands import MOST_CLIENTS
 from e1gw.watcher.pages import MOST_READERS, MOST_VISITORS
 from e1gw.log_folder import RECORDS_ROOM, LogFiles
-from e1gw.tie.site import STRANGERS
+from e1gw_tie.site import STRANGERS
 
 OWN = 20                    # descriptors of a tie itself
 FLOODED = range(11, 31)     # circuits

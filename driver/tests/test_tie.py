@@ -18,14 +18,14 @@ from .ties import ClockedCase, StandInDriver, said_by_tie
 from e1gw_common.lines import Role, State
 from e1gw_common.session import CIRCUITS
 from e1gw_testing.ports import free_port
-from e1gw.tie.circuit import CircuitEnd, LinkState, TieCircuit
-from e1gw.tie.events import CallOver, Ended, SiteCame, SiteGone, Warned
-from e1gw.tie.main import main, parser, sign_of_life, work
-from e1gw.tie.messages import BadMessage, Greeting, Message, SiteState, encode_message, message_of
-from e1gw.tie.pairs import pairs_of
-from e1gw.tie.status import serve_status, texts_of
-from e1gw.tie.tie import Tie, TieOptions
-from e1gw.tie.trunk import LOOK
+from e1gw_tie.circuit import CircuitEnd, LinkState, TieCircuit
+from e1gw_tie.events import CallOver, Ended, SiteCame, SiteGone, Warned
+from e1gw_tie.main import main, parser, sign_of_life, work
+from e1gw_tie.messages import BadMessage, Greeting, Message, SiteState, encode_message, message_of
+from e1gw_tie.pairs import pairs_of
+from e1gw_tie.status import serve_status, texts_of
+from e1gw_tie.tie import Tie, TieOptions
+from e1gw_tie.trunk import LOOK
 from e1gw_common.tls import is_exposed, is_loopback
 
 
@@ -145,7 +145,7 @@ class TieOptionTests(unittest.TestCase):
             with self.subTest(words), self.assertRaises(SystemExit) as end, \
                     mock.patch('sys.argv', ['e1gw-tie', *words.split()]), mock.patch(
                         'sys.stderr', new_callable=io.StringIO) as said, mock.patch(
-                            'e1gw.tie.main.hold_descriptors') as held:
+                            'e1gw_tie.main.hold_descriptors') as held:
                 main()
             self.assertEqual((end.exception.code, held.call_count), (2, 1))
             self.assertRegex(said.getvalue().splitlines()[-1], f'^e1gw-tie: .*{why}')
@@ -163,7 +163,7 @@ class TieOptionTests(unittest.TestCase):
     def test_signs_of_life(self) -> None:
         """systemd, which begins a tie anew that hangs, learns that this one does not."""
         rests = mock.AsyncMock(side_effect=(None, EOFError))
-        with mock.patch('e1gw.tie.main.Notifier') as systemd, mock.patch('asyncio.sleep', rests), \
+        with mock.patch('e1gw_tie.main.Notifier') as systemd, mock.patch('asyncio.sleep', rests), \
                 self.assertRaises(EOFError):
             asyncio.run(sign_of_life())
         self.assertEqual([each.args[0] for each in systemd().tell.call_args_list], ['READY=1', *['WATCHDOG=1'] * 2])

@@ -8,7 +8,7 @@ from typing import Iterator
 
 from e1gw_common.lines import Role, State
 from e1gw_common.session import Command
-from e1gw.tie.circuit import NO_CALL, CircuitEnd, LinkState, TieCircuit, begun, call_name
+from e1gw_tie.circuit import NO_CALL, CircuitEnd, LinkState, TieCircuit, begun, call_name
 
 S, GOOD, LOST, GIVEN_UP = State, LinkState.GOOD, LinkState.LOST, LinkState.GIVEN_UP
 IDLE, SEIZED, ACKED, ANSWERED = S.IDLE, S.SEIZED, S.ACKED, S.ANSWERED

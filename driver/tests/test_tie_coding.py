@@ -8,8 +8,8 @@ from typing import Any, Coroutine
 from .ties import G726, PCMA
 from e1gw.events import Report
 from e1gw_common.lines import State
-from e1gw.tie.coding import CircuitCoding, CodecChanges, Coding
-from e1gw.tie.events import CodecGiven, Warned
+from e1gw_tie.coding import CircuitCoding, CodecChanges, Coding
+from e1gw_tie.events import CodecGiven, Warned
 
 OWN = Coding('pcma', 100)
 TALKS, SILENT = (State.ANSWERED, State.CLEAREDBACK), (State.IDLE, State.ACKED, State.RELEASING, State.BLOCKED)

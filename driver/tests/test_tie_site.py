@@ -19,10 +19,10 @@ from e1gw.events import Report
 from e1gw_common.lines import Role, State
 from e1gw_common.session import CIRCUITS
 from e1gw_testing.ports import free_port
-from e1gw.tie.main import ANYBODY
-from e1gw.tie.messages import Greeting, Message, SiteState, encode_message, message_of
-from e1gw.tie.site import GONE, STRANGERS, Reasons, Site, has_name, one_too_many
-from e1gw.tie.tie import Tie, TieOptions
+from e1gw_tie.main import ANYBODY
+from e1gw_tie.messages import Greeting, Message, SiteState, encode_message, message_of
+from e1gw_tie.site import GONE, STRANGERS, Reasons, Site, has_name, one_too_many
+from e1gw_tie.tie import Tie, TieOptions
 from e1gw_common.tls import context_of
 
 

@@ -11,10 +11,10 @@ from .properties import PropertyCase
 from .test_tie_circuit import ACKED, ANSWERED, BLOCKED, CLEAREDBACK, RELEASING, disagreement
 from .ties import ANSWER, G726, HELD, IDLE, SEIZED, StandInDriver
 from e1gw_common.lines import Role, State
-from e1gw.tie.coding import SIGNALLING
-from e1gw.tie.messages import encode_message, message_of
-from e1gw.tie.pairs import Pairs
-from e1gw.tie.tie import Tie, TieOptions
+from e1gw_tie.coding import SIGNALLING
+from e1gw_tie.messages import encode_message, message_of
+from e1gw_tie.pairs import Pairs
+from e1gw_tie.tie import Tie, TieOptions
 
 JOINED = range(1, 5)        # on odd ones the west calls, on even ones the east
 HOLD, REST = 3.0, 12.0      # seconds

@@ -14,7 +14,7 @@ from . import support
 from .test_tie_circuit import COLUMN, DONE, INCOMING, OUTGOING
 from e1gw_common.lines import UNKNOWN, Role, State
 from e1gw_common.session import Command
-from e1gw.tie.coding import Coding
+from e1gw_tie.coding import Coding
 
 IDLE, SEIZED, ANSWER, HELD = 0b10, 0b00, 0b01, 0b11         # bits a and b
 G726, PCMA = Coding('g726-16', 96), Coding('pcma', 8)

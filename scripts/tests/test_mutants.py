@@ -88,7 +88,7 @@ class Edits(unittest.TestCase):
 
     def test_each_is_well_formed(self) -> None:
         """And another module than before."""
-        for name in ('e1gw/clock', 'e1gw/tie/messages'):
+        for name in ('e1gw/clock', 'e1gw_tie/messages'):
             with open(f'{TOP}/driver/{name}.py', encoding='utf-8') as file:
                 text = file.read()
             made = {ast.dump(ast.parse(edit.made(text.encode()))) for edit in edits_of(text)}

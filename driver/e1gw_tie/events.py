@@ -4,7 +4,7 @@ from __future__ import annotations
 from dataclasses import dataclass
 from typing import Callable, Mapping
 
-from ..events import Report
+from e1gw.events import Report
 
 Tell = Callable[[Report], None]
 

@@ -7,10 +7,10 @@ from collections import Counter
 from contextlib import suppress
 from typing import Any
 
+from e1gw.metrics import Family, family
+from e1gw.watcher.commands import unix_listener
+from e1gw.watcher.pages import StatusTexts, WebServer
 from e1gw_common.lines import IN_CALL
-from ..metrics import Family, family
-from ..watcher.commands import unix_listener
-from ..watcher.pages import StatusTexts, WebServer
 from .circuit import LinkState
 from .tie import Tie
 
