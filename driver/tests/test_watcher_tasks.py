@@ -4,6 +4,7 @@ from __future__ import annotations
 import asyncio
 import logging
 import os
+import sys
 import unittest
 from unittest import mock
 
@@ -67,6 +68,23 @@ class NoteFilesTests(support.FolderCase):
         self.assertEqual(NoteFiles(self.folder).read(), b'three')
         os.truncate(notes[1], 28)
         self.assertEqual(NoteFiles(self.folder).read(), b'')
+
+
+class JournalTests(unittest.TestCase):
+    def test_lines_of_all_packages(self) -> None:
+        """A notice is for the operator, a failure of a work too."""
+        code = f'''import sys; sys.path[:0] = ["{support.TOP}/driver"]
+from e1gw.watcher import blocks
+from e1gw.watcher.journal import NOTICE, ServiceJournal
+from e1gw_common.tasks import goes_on
+journal = ServiceJournal('its name')
+with goes_on('the work'):
+    raise ValueError('odd')
+blocks.logger.log(NOTICE, 'circuit 1: blocked')
+journal.close()'''
+        self.assertEqual(support.ran(sys.executable, '-c', code), (
+            0, '', 'its name: the work goes on: ValueError: odd (<string>:7 in <module>)\n'
+            'its name: circuit 1: blocked\n'))
 
 
 class TaskTests(unittest.IsolatedAsyncioTestCase):

@@ -13,7 +13,7 @@ MOST, MINUTE = 20, 60.0             # lines of a kind in a minute
 MOST_WAITING = 20_000               # lines that wait to be written; more are not kept
 NOTICE = 25                         # between INFO and WARNING
 LEVELS = {logging.ERROR: 3, logging.WARNING: 4, NOTICE: 5, logging.INFO: 6, logging.DEBUG: 7}       # of syslog
-TOP = 'e1gw'
+PACKAGES = 'e1gw', 'e1gw_common'     # whose lines these are
 FLUSH = 2.0                         # seconds at the end for what is not written yet
 
 
@@ -63,7 +63,7 @@ class ServiceJournal:
         sends = logging.handlers.QueueHandler(waiting)
         setattr(sends, 'handleError', lambda record: None)      # (a line for which there is no room is not kept)
         sends.addFilter(LineLimit())
-        for name, level in ((TOP, logging.INFO), ('asyncio', logging.ERROR)):
+        for name, level in (*((each, logging.INFO) for each in PACKAGES), ('asyncio', logging.ERROR)):
             logger = logging.getLogger(name)
             logger.setLevel(level)
             logger.propagate = False
