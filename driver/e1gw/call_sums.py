@@ -6,8 +6,8 @@ from itertools import accumulate
 from math import inf
 from typing import Iterable, Mapping
 
+from e1gw_common.call_lines import CallLine
 from e1gw_common.session_clock import second_of
-from .calls import CallLine
 
 HOUR = 3600.0
 

@@ -1,83 +1,16 @@
-"""A line for each call, as CSV: written when the call has ended and its packets are counted."""
+"""A line for each call: written when the call has ended and its packets are counted."""
 from __future__ import annotations
 
-import csv
-import io
-import os
 import time
-from contextlib import suppress
 from dataclasses import dataclass, replace
-from itertools import takewhile
-from typing import Callable, Iterable, Iterator, Mapping, NamedTuple
+from typing import Callable, Iterable, Mapping
 
+from e1gw_common.call_lines import CallLine, csv_line, moment
 from e1gw_common.lines import IN_CALL, Line, LineCounts, Role, State
 from .counts import DatagramCounts, PacketsNote
 from .events import LineChanged
 
-MOST_OCTETS = 10 << 20      # of a file, before it is FILE.1
-KEPT = 9                    # FILE.1 to FILE.9
-LAST = 1 << 20              # octets of it, which have the lines of seconds
 EACH = 'sent', 'admitted', 'lost', 'Late', 'discarded'      # what is counted, by the words of the counts
-
-
-class CallLine(NamedTuple):
-    """A line of a call, by its fields."""
-    trunk: str
-    circuit: str
-    direction: str
-    seized: str
-    answered: str
-    ended: str
-    by: str
-    codec: str
-    sent: str
-    received: str
-    lost: str
-    late: str
-    call: str
-    discarded: str = ''
-    cause: str = ''
-
-
-FIELDS = CallLine._fields
-FEWEST = len(FIELDS) - len(CallLine._field_defaults)    # of a line of an older version
-
-
-def files_of(path: str) -> list[str]:
-    """A file that lines are appended to, and those that it has followed, the newest first."""
-    return [path, *takewhile(os.path.exists, (f'{path}.{n}' for n in range(1, KEPT + 1)))]
-
-
-def read_calls(path: str, word: str = '') -> Iterator[CallLine]:
-    """The lines of calls in a file and those that it has followed, those with a word in them, the last one first."""
-    for each in files_of(path):
-        with open(each, encoding='utf-8', errors='replace', newline='') as file:
-            lines = [line for line in file if word in line and line.endswith('\n')]
-        rows = [row for row in csv.reader(lines) if len(row) >= FEWEST and row[1].isdecimal()]
-        yield from (CallLine(*row[:len(FIELDS)]) for row in reversed(rows))
-
-
-def has_line(path: str, line: str) -> bool:
-    """Whether a line is among the last ones of a file and the one that it has followed."""
-    for each in (path, f'{path}.1'):
-        with suppress(OSError), open(each, 'rb') as file:
-            file.seek(-min(LAST, file.seek(0, os.SEEK_END)), os.SEEK_END)
-            if f'{line}\n'.encode() in file.read():
-                return True
-    return False
-
-
-def csv_line(fields: Iterable[object]) -> str:
-    text = io.StringIO()
-    csv.writer(text, lineterminator='').writerow(fields)
-    return text.getvalue()
-
-
-def moment(seconds: float | None) -> str:
-    """A time of day in UTC, with milliseconds; nothing if there is none."""
-    if seconds is None:
-        return ''
-    return time.strftime('%Y-%m-%dT%H:%M:%S', time.gmtime(seconds)) + f'.{int(seconds * 1000) % 1000:03}Z'
 
 
 def is_another_gateway(before: Mapping[str, int], now: Mapping[str, int]) -> bool:

@@ -10,8 +10,8 @@ from contextlib import suppress
 from typing import Any, BinaryIO, Callable, Iterable, Iterator, Mapping, NamedTuple
 
 from e1gw_common.faults import words_of_fault
+from e1gw_common.lines import REMOTE
 from .deaf import words_of_rows
-from .events import REMOTE
 from .metrics import block_words, state_of
 
 SOCKETS, UNITS = '/run/e1gw', '/etc/e1gw'

@@ -9,9 +9,10 @@ from itertools import islice, takewhile
 from math import inf
 from typing import Any, Iterable, Iterator, Mapping
 
+from e1gw_common.call_lines import FIELDS as FIELDS_OF_CALLS, CallLine, csv_line, read_calls
+from e1gw_common.line_files import files_of
 from e1gw_common.session_clock import second_of
 from .call_sums import CallSums, sums_of
-from .calls import FIELDS as FIELDS_OF_CALLS, CallLine, csv_line, files_of, read_calls
 from .ctl_all import each_status
 from .deaf import words_of_call
 from .outages import FIELDS, outages_in

@@ -13,10 +13,10 @@ from itertools import islice
 from pathlib import Path
 from typing import Any, Iterator, Mapping
 
+from e1gw_common.call_lines import FIELDS, csv_line, read_calls
 from e1gw_common.faults import words_of_fault
 from . import VERSION
 from .addresses import HiddenAddresses
-from .calls import FIELDS, csv_line, read_calls
 from .ctl_all import UNITS, status_of
 from .metrics import table
 

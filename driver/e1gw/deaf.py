@@ -5,10 +5,10 @@ from dataclasses import dataclass, replace
 from operator import itemgetter, sub
 from typing import Iterable, Mapping
 
+from e1gw_common.call_lines import CallLine
 from e1gw_common.lines import circuit_words
 from e1gw_common.session import OCTETS_A_SECOND, DatagramRefusal
 from e1gw_common.session_clock import second_of
-from .calls import CallLine
 from .counts import REASONS, ToldCounts
 from .events import CallsDeaf, Tell
 

@@ -2,11 +2,12 @@
 from __future__ import annotations
 
 from collections import deque
-from dataclasses import dataclass, fields
+from dataclasses import dataclass
 from enum import Enum, StrEnum
 from typing import Callable, ClassVar, Iterable, Mapping, NamedTuple
 
-from e1gw_common.lines import Alignment, Role, State, circuit_words
+from e1gw_common.lines import LOSSES, REMOTE, Alignment, Role, State, circuit_words
+from e1gw_common.report import Report
 
 
 class Level(Enum):
@@ -16,18 +17,6 @@ class Level(Enum):
     SILENT = 'silent'
     NOTICE = 'notice'
     WARNING = 'warning'
-
-
-@dataclass(frozen=True)
-class Report:
-    """What a program tells those who follow it. A field without a value is not told."""
-
-    name: ClassVar[str]
-
-    def plain(self) -> dict[str, object]:
-        """As plain values."""
-        its = {each.name.rstrip('_'): getattr(self, each.name) for each in fields(self)}
-        return {'event': self.name} | {key: value for key, value in its.items() if value is not None}
 
 
 @dataclass(frozen=True)
@@ -130,13 +119,6 @@ class Condition(Event):
     @property
     def over(self) -> str:
         return '' if self.on else ' over'
-
-
-# The alarms of ITU-T G.704, G.706 and G.732, by what has no alignment: at this end, and as the other one tells.
-LOSSES: Mapping[str, str] = {
-    Alignment.FRAME: 'loss of frame alignment (LFA)', Alignment.MULTIFRAME: 'loss of multiframe alignment'}
-REMOTE: Mapping[str, str] = {
-    Alignment.FRAME: 'RAI (bit A)', Alignment.MULTIFRAME: 'distant multiframe alarm (bit y)'}
 
 
 @dataclass(frozen=True)

@@ -4,10 +4,9 @@ from __future__ import annotations
 import time
 from typing import Any, Iterable, Mapping
 
-from e1gw_common.lines import State, circuit_words
+from e1gw_common.lines import LOSSES, REMOTE, State, circuit_words
 from . import deaf
 from .dahdi import COUNTS, Alarm
-from .events import LOSSES, REMOTE
 
 Status = Mapping[str, Any]
 Labels = Mapping[str, object]

@@ -6,10 +6,10 @@ from dataclasses import dataclass, field
 from math import inf
 from typing import Any, Iterable, Iterator, Mapping
 
+from e1gw_common.call_lines import moment
 from e1gw_common.lines import IN_CALL, circuit_words
 from e1gw_common.session import OCTETS_A_SECOND
 from e1gw_common.session_clock import OUTAGE
-from .calls import moment
 
 NO_OCTETS, SLIP = 'no octets', 'slip'
 # The kinds by the events that tell of them, and what these are about. (A card finds signal and frames itself.)

@@ -36,6 +36,11 @@ class Alignment(StrEnum):
     MULTIFRAME = 'multiframe'
 
 
+# The alarms of ITU-T G.704, G.706 and G.732, by what has no alignment: at this end, and as the other one tells.
+LOSSES: Mapping[str, str] = {
+    Alignment.FRAME: 'loss of frame alignment (LFA)', Alignment.MULTIFRAME: 'loss of multiframe alignment'}
+REMOTE: Mapping[str, str] = {
+    Alignment.FRAME: 'RAI (bit A)', Alignment.MULTIFRAME: 'distant multiframe alarm (bit y)'}
 OPEN = frozenset((State.ACKED, State.ANSWERED, State.CLEAREDBACK))      # speech goes through
 IN_CALL = OPEN | {State.SEIZED}
 UNKNOWN = 'unknown'         # in place of a state of which nothing was told yet

@@ -6,9 +6,8 @@ from collections.abc import Iterator
 from dataclasses import dataclass
 from statistics import median
 
-from e1gw.events import REMOTE
 from e1gw_common.g711 import NAMES, OTHER
-from e1gw_common.lines import OPEN
+from e1gw_common.lines import OPEN, REMOTE
 from e1gw_common.session import name_of
 from .facts import NOT_OPEN, SECOND, Answer, Cell, Facts, Row
 from .slopes import Points, Step, points, slope, steps

@@ -4,7 +4,7 @@ from __future__ import annotations
 from dataclasses import dataclass
 from typing import Callable, Mapping
 
-from e1gw.events import Report
+from e1gw_common.report import Report
 
 Tell = Callable[[Report], None]
 

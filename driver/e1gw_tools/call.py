@@ -25,7 +25,7 @@ from dataclasses import dataclass
 from functools import partial
 from typing import Any, NamedTuple
 
-from e1gw.calls import CallLine, csv_line, moment, read_calls
+from e1gw_common.call_lines import CallLine, csv_line, moment, read_calls
 from e1gw_common.faults import Parser, words_of_fault
 from e1gw_common.frames import FrameSearch
 from e1gw_common.lines import IN_CALL, read_config

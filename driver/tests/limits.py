@@ -33,7 +33,7 @@ LIMITS: dict[str, Any] = {
     'watcher.pages.EVERY': 0.0,
     'e1gw_common.programs.PATIENCE': LONG, 'e1gw_common.writers.OPENS': LONG,
     'watcher.door.PATIENCE': LONG, 'watcher.main.GRACE': LONG,
-    'watcher.events.FLUSH': LONG, 'watcher.journal.FLUSH': LONG, 'watcher.blocks.PATIENCE': LONG,
+    'e1gw_common.line_files.FLUSH': LONG, 'watcher.journal.FLUSH': LONG, 'watcher.blocks.PATIENCE': LONG,
     # (A process that gets what others leave gets next to nothing on a loaded machine.)
     'priority.put_last': lambda process: None}
 USUAL: dict[str, Any] = {}        # what they are where no test is

@@ -19,7 +19,7 @@ from . import support
 from .plain_trunk import PlainTrunk
 from .properties import PropertyCase
 from e1gw import call_names, log_folder
-from e1gw.calls import FIELDS
+from e1gw_common.call_lines import FIELDS
 from e1gw.counts import DatagramCounts
 from e1gw.events import Event, LineChanged
 from e1gw_common.lines import IN_CALL, Role, State

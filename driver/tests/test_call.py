@@ -15,7 +15,7 @@ from . import support
 from .picture_made import GATEWAY, PEER, PROGRESS, MadeSession, PictureSender, packets
 from .properties import PropertyCase
 from .test_picture_beginning import BEGIN, RingCase
-from e1gw.calls import FIELDS, CallLine, csv_line, moment
+from e1gw_common.call_lines import FIELDS, CallLine, csv_line, moment
 from e1gw_common.packets import datagrams
 from e1gw_picture.facts import Facts
 from e1gw_common.session import OCTETS_A_SECOND, Command, Kind, datagram_record, records_in

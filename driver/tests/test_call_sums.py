@@ -7,7 +7,7 @@ import unittest
 from unittest import mock
 
 from e1gw.call_sums import sums_of
-from e1gw.calls import CallLine, moment
+from e1gw_common.call_lines import CallLine, moment
 from e1gw_common.session_clock import local_second
 
 NINE = 1_800_000_000 // 3600 * 3600.0           # an hour begins

@@ -9,7 +9,8 @@ from typing import Any
 from . import support
 from .properties import PropertyCase
 from e1gw.call_names import CallNames
-from e1gw.calls import FIELDS, CallLog, is_another_gateway, moment
+from e1gw_common.call_lines import FIELDS, moment
+from e1gw.calls import CallLog, is_another_gateway
 from e1gw.counts import REASONS, CircuitCounts, DatagramCounts, ToldCounts
 from e1gw.events import LineChanged
 from e1gw_common.lines import IN_CALL, Line, Role, State

@@ -20,7 +20,7 @@ from . import limits, support
 from .limits import LONG
 from .test_texts import STATUS
 from e1gw import ctl, ctl_all
-from e1gw.calls import FIELDS, CallLine, csv_line
+from e1gw_common.call_lines import FIELDS, CallLine, csv_line
 from e1gw.outages import FIELDS as FIELDS_OF_OUTAGES
 
 

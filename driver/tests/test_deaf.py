@@ -10,7 +10,7 @@ from unittest import mock
 from . import support
 from .test_reports import BEGIN, counts, row
 from .test_watch import TrunkWatchCase
-from e1gw.calls import FIELDS, CallLine, csv_line, read_calls
+from e1gw_common.call_lines import FIELDS, CallLine, csv_line, read_calls
 from e1gw.counts import ToldCounts
 from e1gw.ctl_all import TrunkLine
 from e1gw.ctl_calls import row_of
@@ -18,7 +18,7 @@ from e1gw.deaf import DEAF_AFTER, DeafCalls, Hearing, words_of_call
 from e1gw.events import CallsDeaf, Event
 from e1gw.metrics import circuit_table, exposition, table
 from e1gw_common.session import OCTETS_A_SECOND, DatagramRefusal
-from e1gw.watcher.events import LineFile
+from e1gw_common.line_files import LineFile
 from e1gw.watcher.page import body_of, ended_row, parts_of
 
 SECOND = OCTETS_A_SECOND

@@ -16,7 +16,7 @@ from .test_reports import BEGIN, row
 from .test_trunk import aligned, call
 from .test_watch import TrunkWatchCase
 from .world import World
-from e1gw.calls import CallLine, read_calls
+from e1gw_common.call_lines import CallLine, read_calls
 from e1gw.ctl_all import TrunkLine
 from e1gw_common.lost import AHEAD, IN_A_ROW, WINDOW, ReceivedNumbers
 from e1gw_common.session import datagram_record

@@ -18,7 +18,7 @@ from .shown import ShownTables
 from .support import SECONDS
 from .test_trunk import FOUR, aligned, call
 from .world import World, config_of
-from e1gw.calls import CallLine
+from e1gw_common.call_lines import CallLine
 from e1gw.ctl_all import TrunkHere, TrunkLine
 from e1gw.events import (AlarmChanged, CardAlarm, CardAlarmChanged, Connected, Crc4Change, Crc4Changed, Disconnected,
                          Event, Fed, Flows, LineChanged, NotFed, ReadEvents, RemoteAlarmChanged, Slip, SlotsChange,

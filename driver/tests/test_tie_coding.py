@@ -6,7 +6,7 @@ import unittest
 from typing import Any, Coroutine
 
 from .ties import G726, PCMA
-from e1gw.events import Report
+from e1gw_common.report import Report
 from e1gw_common.lines import State
 from e1gw_tie.coding import CircuitCoding, CodecChanges, Coding
 from e1gw_tie.events import CodecGiven, Warned

@@ -15,7 +15,7 @@ from typing import Any
 from .support import eventually
 from .test_tie_circuit import ACKED, ANSWERED
 from .ties import ANSWER, G726, IDLE, PCMA, SEIZED, ClockedCase, StandInDriver, said_by_tie
-from e1gw.events import Report
+from e1gw_common.report import Report
 from e1gw_common.lines import Role, State
 from e1gw_common.session import CIRCUITS
 from e1gw_testing.ports import free_port

@@ -18,9 +18,10 @@ from e1gw.calls import CallLog, CallsNote
 from e1gw.clock import ClockFinding, TrunkRate
 from e1gw.events import (Burst, CallsCleared, Event, FlowChanged, Flows, RateChanged, ReadEvents, Slip, Stalled,
                          WatchEnded)
+from e1gw_common import line_files
 from e1gw_common.lines import Line, Role, State
 from e1gw.resyncs import Resyncs
-from e1gw.watcher import decisions, events, status, watch
+from e1gw.watcher import decisions, status, watch
 from e1gw.watcher.commands import MOST_HELD, ControlPeer
 from e1gw.watcher.connection import ProgramConnection
 from e1gw.watcher.journal import NOTICE, LineFormatter
@@ -158,7 +159,7 @@ class WatchEdgeTests(TrunkWatchCase):
                 setattr(found._server, 'followers', lambda: [follower])
                 found._lines.begin(0)
                 found._lines.take('\n'.join([*BEGIN, 'now', '']).encode())
-                with self.assertLogs('e1gw.watcher', 'DEBUG') as logs:
+                with self.assertLogs(level='DEBUG') as logs:
                     found._lines.take(change.encode())
                 told = [json.loads(call.args[0])['event'] for call in follower.tell.mock_calls]
                 self.assertEqual(told, ['state', 'lost', 'alarm'])
@@ -265,7 +266,7 @@ class WatchEdgeTests(TrunkWatchCase):
 
     async def test_lines_that_are_not_written_are_noted(self) -> None:
         """Up to a thousand, the first ones."""
-        with mock.patch.object(events, 'append_line', side_effect=OSError(28, 'full')):
+        with mock.patch.object(line_files, 'append_line', side_effect=OSError(28, 'full')):
             found = self.watched()
             for number in range(1002):
                 found._put_call(f'{number}')

@@ -12,7 +12,7 @@ from . import support
 from .support import SECONDS
 from e1gw.events import AlarmChanged, AlignmentLost
 from e1gw_common.lines import Alignment
-from e1gw.watcher import events
+from e1gw.watcher import journal
 from e1gw_common import tasks
 from e1gw.watcher.journal import MOST, LineLimit
 from e1gw.watcher.note import NoteFiles
@@ -45,9 +45,9 @@ class LineLimitTests(unittest.TestCase):
 
     def test_kinds_of_events(self) -> None:
         """An alarm is one line, and not another one for the alignment that is lost."""
-        with self.assertLogs(events.logger) as told:
+        with self.assertLogs(journal.logger) as told:
             for event in AlarmChanged(Alignment.FRAME, True, 0), AlignmentLost(Alignment.FRAME, 0):
-                events.tell_journal(event)
+                journal.tell_journal(event)
         self.assertEqual([getattr(record, 'kind') for record in told.records], ['alarm'])
 
 

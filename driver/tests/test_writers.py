@@ -7,9 +7,10 @@ import threading
 from unittest import mock
 
 from . import support
-from e1gw.calls import FIELDS, KEPT, MOST_OCTETS
-from e1gw.watcher import events
-from e1gw.watcher.events import EventFile
+from e1gw_common.call_lines import FIELDS
+from e1gw_common.line_files import KEPT, MOST_OCTETS
+from e1gw_common import line_files
+from e1gw_common.line_files import EventFile
 from e1gw_common.writers import put_file, write_all
 
 
@@ -69,7 +70,7 @@ class LineFileTests(support.FolderCase):
                 return writes(file, octets[:3] if is_full else octets)
             tried.release()
             raise OSError(errno.ENOSPC, 'No space left on device')
-        with mock.patch.object(os, 'write', write), mock.patch.object(events, 'AGAIN', 0.01):
+        with mock.patch.object(os, 'write', write), mock.patch.object(line_files, 'AGAIN', 0.01):
             file = EventFile('calls', path, lambda name, why: ended.append(why), 'head')
             file.put('line 1')
             support.until(lambda: not file.waiting)
@@ -114,7 +115,7 @@ class LineFileTests(support.FolderCase):
 
     def test_one_that_takes_too_little(self) -> None:
         """What there is no room for is not kept."""
-        with mock.patch.object(events, 'MOST_WAITING', 3):
+        with mock.patch.object(line_files, 'MOST_WAITING', 3):
             file = EventFile('json', '/dev/full', lambda what, why: self.ended.append(why))
             for number in range(5):
                 file.put(f'{number}')
@@ -142,7 +143,7 @@ class LineFileTests(support.FolderCase):
         self.assertIn(f'A file of {MOST_OCTETS >> 20} MiB is renamed', support.text_of(
             f'{support.TOP}/dist/man/e1gw-watch.1'))
         for kind, head in ('calls', ','.join(FIELDS) + '\n'), ('events', ''):
-            with mock.patch.object(events, 'MOST_OCTETS', len(head) + 25):
+            with mock.patch.object(line_files, 'MOST_OCTETS', len(head) + 25):
                 file = EventFile(kind, self.path(kind), lambda _, why: self.fail(why), head.strip())
                 for number in range(10, 40):
                     file.put(f'line of {number}')

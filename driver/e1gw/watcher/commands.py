@@ -31,13 +31,13 @@ import time
 from dataclasses import dataclass, field
 from typing import TYPE_CHECKING
 
+from e1gw_common.report import json_line
 from e1gw_common.session import Codec, Command, circuit_of, circuits_of, codec_record
 from e1gw_common.tasks import Tasks
 from ..events import WatchEnded
 from ..metrics import circuit_table
 from .blocks import DONE
 from .decisions import who_goes
-from .events import json_line
 
 if TYPE_CHECKING:
     from .watch import TrunkWatch

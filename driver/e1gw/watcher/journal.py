@@ -9,12 +9,16 @@ import queue
 import sys
 import threading
 
+from e1gw_common.line_files import MOST_WAITING
+from ..events import Event, Level
+
 MOST, MINUTE = 20, 60.0             # lines of a kind in a minute
-MOST_WAITING = 20_000               # lines that wait to be written; more are not kept
 NOTICE = 25                         # between INFO and WARNING
 LEVELS = {logging.ERROR: 3, logging.WARNING: 4, NOTICE: 5, logging.INFO: 6, logging.DEBUG: 7}       # of syslog
 PACKAGES = 'e1gw', 'e1gw_common'     # whose lines these are
 FLUSH = 2.0                         # seconds at the end for what is not written yet
+
+logger = logging.getLogger(__name__)
 
 
 class LineLimit(logging.Filter):
@@ -64,10 +68,10 @@ class ServiceJournal:
         setattr(sends, 'handleError', lambda record: None)      # (a line for which there is no room is not kept)
         sends.addFilter(LineLimit())
         for name, level in (*((each, logging.INFO) for each in PACKAGES), ('asyncio', logging.ERROR)):
-            logger = logging.getLogger(name)
-            logger.setLevel(level)
-            logger.propagate = False
-            logger.handlers[:] = [sends]
+            its = logging.getLogger(name)
+            its.setLevel(level)
+            its.propagate = False
+            its.handlers[:] = [sends]
         self._listener = logging.handlers.QueueListener(waiting, writes)
         self._listener.start()
 
@@ -76,3 +80,10 @@ class ServiceJournal:
         stops = threading.Thread(target=self._listener.stop, daemon=True)
         stops.start()
         stops.join(FLUSH)
+
+
+def tell_journal(event: Event) -> None:
+    """What an operator is to read."""
+    if (level := event.level()) is not Level.SILENT:
+        number = NOTICE if level is Level.NOTICE else logging.WARNING
+        logger.log(number, '%s', event.words(), extra={'kind': event.name})

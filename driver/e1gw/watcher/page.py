@@ -12,9 +12,9 @@ from dataclasses import dataclass
 from html import escape
 from typing import Any, Iterable, Mapping, Sequence
 
+from e1gw_common.call_lines import CallLine
 from e1gw_common.session import CIRCUITS
 from e1gw_common.session_clock import second_of
-from ..calls import CallLine
 from ..ctl_all import TrunkHere, TrunkLine
 from ..deaf import HEARS_NOTHING, words_of_call, words_of_row
 from ..events import ReadEvent

@@ -13,11 +13,15 @@ from dataclasses import dataclass, field, replace
 from itertools import islice
 from typing import Any
 
+from e1gw_common.call_lines import FIELDS
 from e1gw_common.faults import words_of_refusal
+from e1gw_common.line_files import has_line
+from e1gw_common.line_files import EventFile
 from e1gw_common.lines import Role, State
+from e1gw_common.report import json_line
 from e1gw_common.session import Codec, Command, codec_record, command_record
 from e1gw_common.tasks import Tasks, again, every, guarded, has_failed
-from ..calls import FIELDS, CallsNote, has_line
+from ..calls import CallsNote
 from ..clearing import DisconnectWatch, OutageWatch, on_loss_of
 from ..clock import ClockFinding
 from ..counts import DatagramCounts
@@ -29,9 +33,8 @@ from .commands import MOST_LINE, CannotListen, CommandServer, unix_listener
 from .connection import NoAnswer, ProgramConnection
 from .blocks import BlockWatch
 from .codecs import CodecWatch
-from .events import EventFile, json_line, tell_journal
 from .idle_reloads import IdleReloadWatch
-from .journal import NOTICE
+from .journal import NOTICE, tell_journal
 from .page import PageNotes
 from .pages import TrunkPages, WebServer, web_listener
 from .status import WATCH, TrunkStatus

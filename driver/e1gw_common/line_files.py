@@ -1,25 +1,39 @@
-"""Reports changes of the trunk: to the journal, to a file of JSON, to standard output, and to clients that follow."""
+"""Files of lines, as of events and of calls: appended to by a thread of their own, and followed by others."""
 from __future__ import annotations
 
-import json
 import logging
 import logging.handlers
 import os
 import threading
-import time
 from collections import deque
+from contextlib import suppress
 from dataclasses import dataclass
+from itertools import takewhile
 from typing import Any, Callable, TextIO
 
-from e1gw_common.writers import append_line, open_to_append, write_all
-from ..calls import KEPT, MOST_OCTETS
-from ..events import Event, Level, Report
-from .journal import MOST_WAITING, NOTICE
+from .writers import append_line, open_to_append, write_all
 
+MOST_OCTETS = 10 << 20      # of a file, before it is FILE.1
+KEPT = 9                    # FILE.1 to FILE.9
+LAST = 1 << 20              # octets of it, which have the lines of seconds
+MOST_WAITING = 20_000       # lines that wait to be written; more are not kept
 AGAIN = 60.0                # seconds between two tries to write
 FLUSH = 2.0                 # seconds at the end for what is not written yet
 
-logger = logging.getLogger(__name__)
+
+def files_of(path: str) -> list[str]:
+    """A file that lines are appended to, and those that it has followed, the newest first."""
+    return [path, *takewhile(os.path.exists, (f'{path}.{n}' for n in range(1, KEPT + 1)))]
+
+
+def has_line(path: str, line: str) -> bool:
+    """Whether a line is among the last ones of a file and the one that it has followed."""
+    for each in (path, f'{path}.1'):
+        with suppress(OSError), open(each, 'rb') as file:
+            file.seek(-min(LAST, file.seek(0, os.SEEK_END)), os.SEEK_END)
+            if f'{line}\n'.encode() in file.read():
+                return True
+    return False
 
 
 class LineFile(logging.handlers.RotatingFileHandler):
@@ -142,15 +156,3 @@ class EventFile:
             self._is_closing = True
             self._changed.notify()
         self._thread.join(FLUSH)
-
-
-def json_line(report: Report, **more: object) -> str:
-    """A report as a line, with more that it need not say itself."""
-    return json.dumps({'time': round(time.time(), 6), **more, **report.plain()})
-
-
-def tell_journal(event: Event) -> None:
-    """What an operator is to read."""
-    if (level := event.level()) is not Level.SILENT:
-        number = NOTICE if level is Level.NOTICE else logging.WARNING
-        logger.log(number, '%s', event.words(), extra={'kind': event.name})
