@@ -5,12 +5,11 @@ import time
 from typing import Any, Iterable, Mapping
 
 from e1gw_common.lines import LOSSES, REMOTE, State, circuit_words
+from e1gw_common.prometheus import Family, text_of
 from . import deaf
 from .dahdi import COUNTS, Alarm
 
 Status = Mapping[str, Any]
-Labels = Mapping[str, object]
-Samples = Iterable[tuple[Labels, float | int]] | float | int
 
 ALIGNED, NOT_OPEN, WRONG_RATE = 'aligned', 'not open', 'wrong rate'
 BLOCK_WORDS = {'blocked': 'blocked by the operator', 'blocking': 'blocking, until their calls have ended'}
@@ -27,31 +26,10 @@ CIRCUIT_NUMBERS = (
     ('e1gw_rtp_jitter_seconds', 'Interarrival jitter (RFC 3550, 6.4.1).', 'jitter_ms', 1000))
 
 
-# ---- the text of Prometheus, version 0.0.4 ----
-
-def _escaped(value: object) -> str:
-    return str(value).replace('\\', r'\\').replace('"', r'\"').replace('\n', r'\n')
-
-
-def family(name: str, about: str, samples: Samples, common: str = '') -> str:
-    """A family of samples, or of one that is a number, whose kind its name shows; `common` are labels that each has."""
-    kind = 'counter' if name.endswith('_total') else 'untyped' if name == TRANSPORT else 'gauge'
-    samples = [({}, samples)] if isinstance(samples, (int, float)) else samples
-    text = [f'# HELP {name} {about}\n# TYPE {name} {kind}\n']
-    for labels, value in samples:
-        inside = ','.join([common] * bool(common) + [f'{key}="{_escaped(each)}"' for key, each in labels.items()])
-        text.append(f'{name}{{{inside}}} {value + 0}\n' if inside else f'{name} {value + 0}\n')     # (0 for False)
-    return ''.join(text)
-
-
 def exposition(status: Status, trunk: str = '') -> str:
     """All metrics of a trunk, which `trunk` names."""
-    common = f'trunk="{_escaped(trunk)}"' if trunk else ''
     families = [*_of_trunk(status), *crc4_families(status), *_of_circuits(status), *_of_service(status)]
-    return ''.join(family(*each, common) for each in families)
-
-
-Family = tuple[str, str, Samples]
+    return text_of(families, {'trunk': trunk} if trunk else {}, {TRANSPORT})
 
 
 def _of_trunk(status: Status) -> list[Family]:

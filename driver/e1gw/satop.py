@@ -7,7 +7,7 @@ import socket
 from contextlib import suppress
 from typing import Sequence
 
-from .trunks import host_and_port
+from e1gw_common.addresses import host_and_port
 
 FIRST = 'satop '            # how a line of counts begins
 # What is reported: the name in the status, the count that grows, and the words. In silence the program plays by its own

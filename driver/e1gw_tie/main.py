@@ -9,14 +9,14 @@ import signal
 import sys
 from contextlib import suppress
 
-from e1gw.trunks import host_and_port
-from e1gw.watcher.commands import CannotListen
+from e1gw_common.addresses import host_and_port
 from e1gw_common.faults import Parser, checked, number, words_of_fault
 from e1gw_common.line_files import EventFile
 from e1gw_common.notifier import Notifier
 from e1gw_common.report import Report
 from e1gw_common.report import json_line
 from e1gw_common.tls import add_tls, context_of, is_exposed
+from e1gw_common.unix_listener import CannotListen
 from e1gw_common.writers import hold_descriptors
 from .coding import SIGNALLING
 from .events import Ended, Started, Warned

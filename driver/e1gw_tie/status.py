@@ -7,10 +7,10 @@ from collections import Counter
 from contextlib import suppress
 from typing import Any
 
-from e1gw.metrics import Family, family
-from e1gw.watcher.commands import unix_listener
-from e1gw.watcher.pages import StatusTexts, WebServer
 from e1gw_common.lines import IN_CALL
+from e1gw_common.prometheus import Family, text_of
+from e1gw_common.unix_listener import unix_listener
+from e1gw_common.web import StatusTexts, WebServer
 from .circuit import LinkState
 from .tie import Tie
 
@@ -66,7 +66,7 @@ def exposition(status: dict[str, Any]) -> str:
         ('e1gw_tie_calls_given_up_total', 'Calls that could not be set up, or that were lost.', status['given_up']),
         ('e1gw_tie_commands_total', 'Commands by answer.',
          [({'command': row['command'], 'answer': row['answer']}, row['count']) for row in status['commands']])]
-    return ''.join(family(*each) for each in families)
+    return text_of(families, {})
 
 
 def texts_of(tie: Tie) -> StatusTexts:

@@ -29,7 +29,7 @@ LIMITS: dict[str, Any] = {
     'watcher.feed.PATIENCE': LONG, 'watcher.standby.PATIENCE': LONG, 'watcher.pair.PATIENCE': LONG,
     'watcher.feed.FRESH': LONG, 'watcher.standby.FRESH': LONG, 'watcher.pair.FRESH': LONG,
     'watcher.standby.MOST_AGE': LONG, 'watcher.recordings.FLUSH': LONG, 'watcher.pair.GRACE': LONG,
-    'watcher.connection.NEXT': LONG, 'watcher.pages.SECONDS': LONG,
+    'watcher.connection.NEXT': LONG, 'e1gw_common.web.SECONDS': LONG,
     'watcher.pages.EVERY': 0.0,
     'e1gw_common.programs.PATIENCE': LONG, 'e1gw_common.writers.OPENS': LONG,
     'watcher.door.PATIENCE': LONG, 'watcher.main.GRACE': LONG,

@@ -12,7 +12,7 @@ from . import support
 from .support import SECONDS
 from e1gw_common.session import Command, CommandRefusal, Kind, Record, command_record
 from e1gw.watcher import connection
-from e1gw.watcher.commands import unix_listener
+from e1gw_common.unix_listener import unix_listener
 from e1gw.watcher.connection import NoAnswer, ProgramConnection
 
 

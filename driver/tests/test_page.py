@@ -29,7 +29,8 @@ from e1gw.watcher import pages
 from e1gw.watcher.options import kept_of
 from e1gw.watcher.page import (POLICY, circuit_row, ended_row, length, message_of, page_of, trunk_row,
                                trunks_page)
-from e1gw.watcher.pages import EventReaders, PageRequest
+from e1gw.watcher.pages import EventReaders
+from e1gw_common.web import NOTHING, PageRequest
 from e1gw_testing.ports import free_port
 from e1gw.udp_tables import sockets_of
 
@@ -139,7 +140,7 @@ class PageServerTests(unittest.IsolatedAsyncioTestCase):
     async def asyncSetUp(self) -> None:
         texts = mock.Mock(parts={'c1': [['1', 'idle']]}, table='rows', metrics='samples', json='{}',
                           status={'name': 'west'})
-        server = await asyncio.start_server(pages.WebServer(mock.AsyncMock(return_value=texts), '127.0.0.1').came,
+        server = await asyncio.start_server(pages.TrunkServer(mock.AsyncMock(return_value=texts), '127.0.0.1', []).came,
                                             '127.0.0.1', 0)
         self.addCleanup(server.close)
         self.place = server.sockets[0].getsockname()
@@ -160,8 +161,8 @@ class PageServerTests(unittest.IsolatedAsyncioTestCase):
     async def test_texts(self) -> None:
         for path, kind, body in (('/', 'text/plain', 'rows'), ('/metrics', 'text/plain; version=0.0.4', 'samples'),
                                  ('/status', 'application/json', '{}\n')):
-            self.assertEqual(await self.answered('GET', path), ('200 OK', kind, pages.NOTHING, body))
-            self.assertEqual(await self.answered('HEAD', path), ('200 OK', kind, pages.NOTHING, ''))
+            self.assertEqual(await self.answered('GET', path), ('200 OK', kind, NOTHING, body))
+            self.assertEqual(await self.answered('HEAD', path), ('200 OK', kind, NOTHING, ''))
         status, _, _, body = await self.answered('GET', '/none')
         self.assertEqual((status, body.strip()), ('404 Not Found', 'there are /, /metrics, /status, /trunks, /events'))
         self.assertEqual((await self.answered('POST', '/'))[0], '405 Method Not Allowed')

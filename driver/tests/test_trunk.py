@@ -18,7 +18,7 @@ from .support import octets_in
 from .world import World, children, config_of, trunk_command
 from e1gw_tools.far_exchange import SEIZED
 from e1gw_common.session import FRAME, MULTIFRAME, trunk_record
-from e1gw.trunks import host_and_port
+from e1gw_common.addresses import host_and_port
 
 FOUR = range(1, 5)
 OCTETS = bytes(range(256)) * 2

@@ -28,7 +28,8 @@ from e1gw.watcher.journal import NOTICE, LineFormatter
 from e1gw.watcher.missed import MissedReports
 from e1gw.watcher.note import typed
 from e1gw.watcher.page import PageNotes, body_of, parts_of
-from e1gw.watcher.pages import MOST_VISITORS, TrunkPages, WebServer
+from e1gw_common.web import MOST_VISITORS, WebServer
+from e1gw.watcher.pages import TrunkPages
 from e1gw_common.session import CIRCUITS, OCTETS_A_SECOND, Command, command_record
 
 

@@ -4,7 +4,8 @@ from __future__ import annotations
 import os
 from typing import Callable, Mapping, NamedTuple
 
-from ..trunks import Stream, host_and_port, open_tcp, open_unix
+from e1gw_common.addresses import host_and_port
+from ..trunks import Stream, open_tcp, open_unix
 
 NAME, MEMORY = 'e1gw-trunk', '/dev/shm'
 MOST_PATH, LONGEST = 107, 'program.new'     # octets of the path of a socket; the longest one in the folder

@@ -23,10 +23,6 @@ from __future__ import annotations
 
 import asyncio
 import contextlib
-import grp
-import os
-import socket
-import stat
 import time
 from dataclasses import dataclass, field
 from typing import TYPE_CHECKING
@@ -49,10 +45,6 @@ FULL = f'another client has come, and {MOST_CLIENTS} are the most'
 
 COMMANDS = {command.word: command for command in Command}
 CODECS = {'pcma': Codec.G711, 'pcmu': Codec.G711} | {codec.word('A'): codec for codec in Codec}
-
-
-class CannotListen(Exception):
-    """Why nobody could connect."""
 
 
 @dataclass(eq=False)
@@ -204,27 +196,3 @@ def codec_fault(words: list[str], law: str) -> str | None:
     if CODECS[name] is Codec.G711 and name != Codec.G711.word(law):
         return f'the law of the trunk is {law}'
     return None
-
-
-def unix_listener(path: str, mode: int, group: str | None) -> socket.socket:
-    """A Unix socket that listens, with its mode and group, from the moment on at which it is there."""
-    line, new = socket.socket(socket.AF_UNIX), f'{path}~'
-    if os.path.lexists(path):
-        if not stat.S_ISSOCK(os.lstat(path).st_mode):
-            raise CannotListen(f'{path} is there and no socket')
-        if line.connect_ex(path) == 0:
-            raise CannotListen(f'at {path} another one listens')
-    with contextlib.suppress(FileNotFoundError):
-        os.unlink(new)
-    before = os.umask(0o777 & ~mode)
-    try:
-        line.bind(new)
-    except OSError as fault:
-        raise CannotListen(f'--control {path}: {fault.strerror}') from None
-    finally:
-        os.umask(before)
-    if group:
-        os.chown(new, -1, int(group) if group.isdecimal() else grp.getgrnam(group).gr_gid)
-    line.listen(MOST_CLIENTS)
-    os.replace(new, path)
-    return line

@@ -22,11 +22,11 @@ from e1gw_common.faults import Parser, options_words, words_of_fault
 from e1gw_common.notifier import Notifier
 from e1gw_common.programs import program_of
 from e1gw_common.tasks import either, every, goes_on
+from e1gw_common.unix_listener import CannotListen
 from e1gw_common.writers import hold_descriptors
 from ..clearing import on_loss_of
 from ..holder_state import STARTED_BY, TrunkPlaces
 from ..lock import InUse, hold, is_at
-from .commands import CannotListen
 from .held import HeldTrunk, state_of, wait_of
 from .journal import ServiceJournal
 from .memo import WatchNote, blocks_told, note_in

@@ -6,11 +6,11 @@ import os
 import shlex
 from ipaddress import ip_address
 
+from e1gw_common.addresses import host_and_port
 from e1gw_common.faults import checked, number
 from e1gw_common.tls import add_tls, is_exposed
 from ..holder_state import MEMORY
 from ..recording_ring import seconds_of
-from ..trunks import host_and_port
 from .recordings import RecordingWants
 from .watch import WatchWants
 

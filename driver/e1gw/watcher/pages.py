@@ -4,15 +4,12 @@ from __future__ import annotations
 
 import asyncio
 import functools
-import json
-import re
 import socket
 import time
-from dataclasses import dataclass
 from typing import Any, Awaitable, Callable
 
-from e1gw_common.faults import named
 from e1gw_common.lines import Line
+from e1gw_common.web import PageAnswer, PageRequest, StatusTexts, Stream, WebServer
 from ..ctl_all import asked_trunks
 from ..metrics import exposition, table
 from ..priority import put_behind
@@ -21,7 +18,6 @@ from .page import HOST, POLICY, PageNotes, Parts, message_of, page_of, parts_of,
 from .process import python_words, run_process, start_process
 
 EVERY = 0.25                        # seconds between two statuses
-SECONDS, MOST_VISITORS = 10.0, 64   # for one request, and who may ask at once
 TOLD, MOST_READERS = 1.0, 256       # seconds between two messages to those who read events, and who may
 MOST_HELD, AT_ONCE = 32 << 10, 16   # octets that wait for one of them; how many are told before others have their turn
 FRESH, DRAWN = 5.0, 60.0            # seconds in which nobody gets another picture, and for one to be drawn
@@ -31,33 +27,19 @@ WHOLE = b'</html>\n'
 SOON = (b'<!DOCTYPE html><html><head><title>e1gw</title><meta http-equiv="refresh" content="10"><meta name="viewport" '
         b'content="width=device-width"><meta name="color-scheme" content="light dark"></head><body>The page is being '
         b'made, and loads again by itself.</body></html>\n')
-HEAD = ('HTTP/1.0 {status}\r\nContent-Type: {kind}; charset=utf-8\r\nContent-Security-Policy: {policy}\r\n'
-        'X-Content-Type-Options: nosniff\r\nCache-Control: no-store\r\nConnection: close\r\n')
-NOTHING, DRAWING = "default-src 'none'", "default-src 'none'; style-src 'unsafe-inline'"        # what a page may load
+DRAWING = "default-src 'none'; style-src 'unsafe-inline'"       # what one that is drawn may load
 
 
-class StatusTexts:
-    """A status of plain values, and the texts of it, each made once; of a trunk also the parts of its page."""
+class TrunkTexts(StatusTexts):
+    """The texts of a trunk's status, with the parts of its page."""
 
-    def __init__(self, status: dict[str, Any], table_of: Callable[[dict[str, Any]], str],
-                 metrics_of: Callable[[dict[str, Any]], str], notes: PageNotes | None = None) -> None:
-        self.status, self._table_of, self._metrics_of, self._notes = status, table_of, metrics_of, notes
-
-    @functools.cached_property
-    def json(self) -> str:
-        return json.dumps(self.status)
-
-    @functools.cached_property
-    def table(self) -> str:
-        return self._table_of(self.status)
-
-    @functools.cached_property
-    def metrics(self) -> str:
-        return self._metrics_of(self.status)
+    def __init__(self, status: dict[str, Any], notes: PageNotes) -> None:
+        super().__init__(status, table, lambda its: exposition(its, str(its['name'])))
+        self._notes = notes
 
     @functools.cached_property
     def parts(self) -> Parts:
-        return parts_of(self.status, self._notes) if self._notes else {}
+        return parts_of(self.status, self._notes)
 
 
 class TrunkPages:
@@ -68,13 +50,13 @@ class TrunkPages:
                  notes: PageNotes) -> None:
         self._status, self._take, self._lines, self._notes = status, take, lines, notes
         self._due, self._has_changed = 0.0, True
-        self._last: StatusTexts | None = None
+        self._last: TrunkTexts | None = None
 
     def changed(self) -> None:
         """A change was told: what was made before it is old."""
         self._has_changed = True
 
-    async def fresh(self) -> StatusTexts:
+    async def fresh(self) -> TrunkTexts:
         """The last one, or if something has changed since the next one."""
         self._take()
         wait = self._due - time.monotonic()
@@ -83,118 +65,41 @@ class TrunkPages:
             self._take()
         if self._last is None or time.monotonic() >= self._due:
             self._has_changed, self._due = False, time.monotonic() + EVERY
-            self._last = StatusTexts(with_sockets(self._status(), sockets_of(self._lines)), table,
-                                     lambda status: exposition(status, str(status['name'])), self._notes)
+            self._last = TrunkTexts(with_sockets(self._status(), sockets_of(self._lines)), self._notes)
         return self._last
 
 
-@dataclass(frozen=True)
-class PageRequest:
-    """What somebody asks for, at which host as he sees it; it is of a browser if it names HTML as what it accepts."""
+class TrunkServer(WebServer):
+    """Who asks for a trunk's pages, which are at this host. `picture` are the words of the command that draws its last
+    seconds, if that is wanted."""
 
-    method: bytes
-    path: str
-    host: str
-    is_of_browser: bool
-
-    @classmethod
-    def of(cls, head: bytes) -> PageRequest:
-        """That of the head of a request. ValueError if it is none."""
-        method, target = head.split(b' ', 2)[:2]
-        accepted = b','.join(re.findall(rb'(?im)^accept:(.*?)\r?$', head)).lower().split(b',')
-        wanted = [words[1:] for each in accepted if (words := b''.join(each.split()).split(b';'))[0] == b'text/html']
-        host = re.search(rb'(?im)^host:[ \t]*([\w.-]+|\[[\da-f:.]+\])(?::\d+)?[ \t]*\r?$', head)
-        path = target.partition(b'?')[0].decode(errors='replace')
-        return cls(method, path, host[1].decode() if host else 'localhost',
-                   any(not re.fullmatch(rb'q=0(\.0*)?', words[0] if words else b'') for words in wanted))
-
-
-@dataclass(frozen=True)
-class PageAnswer:
-    """A page: its octets, their kind, what it may load, and the status."""
-
-    body: bytes
-    kind: str = 'text/plain'
-    policy: str = NOTHING
-    status: str = '200 OK'
-
-    def head(self) -> str:
-        return HEAD.format(status=self.status, kind=self.kind, policy=self.policy)
-
-    def encode(self, is_whole: bool) -> bytes:
-        return f'{self.head()}Content-Length: {len(self.body)}\r\n\r\n'.encode() + self.body * is_whole
-
-
-def web_listener(host: str, port: int) -> socket.socket:
-    """Where pages are asked for. OSError says what is refused."""
-    try:
-        return socket.create_server((host, port), family=socket.AF_INET6 if ':' in host else socket.AF_INET)
-    except OSError as fault:
-        raise named(fault, f'--http {host}:{port}') from None
-
-
-class WebServer:
-    """Who asks for pages: one request a connection; the oldest goes for one too many. `fresh` has the texts of now.
-    `host` is that of a trunk's pages, `picture` the words of the command that draws its last seconds, if that is
-    wanted."""
-
-    def __init__(self, fresh: Callable[[], Awaitable[StatusTexts]], host: str = '', picture: list[str] | None = None
-                 ) -> None:
-        self._fresh, self._readers = fresh, EventReaders(fresh) if host else None
-        self._slow = {'/trunks': SlowPage(lambda: trunks_of(host))} if host else {}
+    def __init__(self, fresh: Callable[[], Awaitable[TrunkTexts]], host: str, picture: list[str]) -> None:
+        super().__init__(fresh)
+        self._texts, self._readers = fresh, EventReaders(fresh)
+        self._slow = {'/trunks': SlowPage(lambda: trunks_of(host))}
         if picture:
             self._slow['/picture'] = SlowPage(functools.partial(picture_of, picture))
-        self._visitors: dict[asyncio.Task[None], None] = {}
+        self.others = *self._slow, '/events'
 
-    async def came(self, reader: asyncio.StreamReader, writer: asyncio.StreamWriter) -> None:
-        task = asyncio.current_task()
-        assert task
-        if len(self._visitors) >= MOST_VISITORS:
-            next(iter(self._visitors)).cancel()
-        self._visitors[task] = None
-        try:
-            async with asyncio.timeout(SECONDS):
-                request = PageRequest.of(await reader.readuntil(b'\r\n\r\n'))
-                readers = self._readers if (request.method, request.path) == (b'GET', '/events') else None
-                if not readers:
-                    writer.write((await self._answer(request)).encode(request.method != b'HEAD'))
-                    await writer.drain()
-            if readers:
-                del self._visitors[task]
-                await readers.read(reader, writer)
-        except (OSError, TimeoutError, ValueError, asyncio.CancelledError, asyncio.IncompleteReadError,
-                asyncio.LimitOverrunError):
-            pass                # (it goes, or has sent no request)
-        finally:
-            self._visitors.pop(task, None)
-            writer.close()
+    def stream_of(self, request: PageRequest) -> Stream | None:
+        return self._readers.read if (request.method, request.path) == (b'GET', '/events') else None
 
-    async def _answer(self, request: PageRequest) -> PageAnswer:
-        if request.method not in (b'GET', b'HEAD'):
-            return PageAnswer(b'there are GET and HEAD\n', status='405 Method Not Allowed')
+    async def page(self, request: PageRequest) -> PageAnswer:
         if slow := self._slow.get(request.path):
             made = (await slow.fresh()).replace(HOST.encode(), request.host.encode())
             return PageAnswer(made, 'text/html', DRAWING) if made else \
                 PageAnswer(b'it cannot be made\n', status='503 Service Unavailable')
-        now = await self._fresh()
-        match request.path:
-            case '/' if now.parts and request.is_of_browser:
-                return PageAnswer(page_of(f'trunk {now.status["name"]}', now.parts, [*self._slow]), 'text/html', POLICY)
-            case '/':
-                return PageAnswer(now.table.encode())
-            case '/metrics':
-                return PageAnswer(now.metrics.encode(), 'text/plain; version=0.0.4')
-            case '/status':
-                return PageAnswer(f'{now.json}\n'.encode(), 'application/json')
-        others = ''.join(f', {path}' for path in (*self._slow, *['/events'] * bool(self._readers)))
-        return PageAnswer(f'there are /, /metrics, /status{others}\n'.encode(), status='404 Not Found')
+        if request.path == '/' and request.is_of_browser:
+            now = await self._texts()
+            return PageAnswer(page_of(f'trunk {now.status["name"]}', now.parts, [*self._slow]), 'text/html', POLICY)
+        return await super().page(request)
 
 
 class EventReaders:
     """Who reads events: each second what has changed of the page, the same octets for all. Who takes too little is
     closed, and the oldest for one too many."""
 
-    def __init__(self, fresh: Callable[[], Awaitable[StatusTexts]]) -> None:
+    def __init__(self, fresh: Callable[[], Awaitable[TrunkTexts]]) -> None:
         self._fresh, self._writers = fresh, dict[asyncio.StreamWriter, None]()
         self._last: Parts = {}
         self._telling: asyncio.Task[None] | None = None

@@ -15,12 +15,13 @@ from typing import Any
 
 from e1gw_common.call_lines import FIELDS
 from e1gw_common.faults import words_of_refusal
-from e1gw_common.line_files import has_line
-from e1gw_common.line_files import EventFile
+from e1gw_common.line_files import EventFile, has_line
 from e1gw_common.lines import Role, State
 from e1gw_common.report import json_line
 from e1gw_common.session import Codec, Command, codec_record, command_record
 from e1gw_common.tasks import Tasks, again, every, guarded, has_failed
+from e1gw_common.unix_listener import CannotListen, unix_listener
+from e1gw_common.web import web_listener
 from ..calls import CallsNote
 from ..clearing import DisconnectWatch, OutageWatch, on_loss_of
 from ..clock import ClockFinding
@@ -29,14 +30,14 @@ from ..deaf import DeafCalls
 from ..events import (LAST, Burst, CallsCleared, CommandGiven, Event, LineChanged, RateChanged, ReadEvent, ReadEvents,
                       Slip, WatchEnded, WrongRate)
 from ..resyncs import Resyncs
-from .commands import MOST_LINE, CannotListen, CommandServer, unix_listener
+from .commands import MOST_LINE, CommandServer
 from .connection import NoAnswer, ProgramConnection
 from .blocks import BlockWatch
 from .codecs import CodecWatch
 from .idle_reloads import IdleReloadWatch
 from .journal import NOTICE, tell_journal
 from .page import PageNotes
-from .pages import TrunkPages, WebServer, web_listener
+from .pages import TrunkPages, TrunkServer
 from .status import WATCH, TrunkStatus
 from .trunk import WatchedTrunk
 
@@ -286,7 +287,7 @@ class TrunkWatch:
         if wants.control:
             await self._listen(wants.control)
         if wants.http:
-            server = WebServer(self.pages.fresh, wants.http[0], wants.picture)
+            server = TrunkServer(self.pages.fresh, wants.http[0], wants.picture)
             await asyncio.start_server(server.came, sock=web_listener(*wants.http), limit=8192)
 
     async def _listen(self, path: str) -> None:
