@@ -4,7 +4,7 @@ from __future__ import annotations
 from typing import Any, Iterable, Mapping
 
 from e1gw_common.session_files import InputError
-from e1gw_picture.why import finding_lines, last_facts
+from e1gw_picture import finding_lines, last_facts
 from .ctl_all import each_status
 
 

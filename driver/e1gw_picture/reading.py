@@ -68,7 +68,7 @@ class SessionReading:
         self.came: deque[bytes] = deque()       # datagrams of which nothing is reported yet
         self.sent = dict.fromkeys(facts.rows, 0)    # datagrams by circuit, since it was looked at
         self.lines: dict[str, Callable[..., None]] = {
-            'at': self._at, 'datagram': self._datagram, 'alarms': self._alarms, 'line': self._line,
+            'at': self._at, 'datagram': self._datagram, 'alarms': self._alarms, 'line': self.line_told,
             'command': self._command, 'codec': self._codec}
         self._begin()
 
@@ -181,19 +181,20 @@ class SessionReading:
                 self.facts.lost(what, self.changed)
             spans.put(self.changed, bit == '1')
 
-    def _line(self, circuit: str, _role: str, state: str, *rest: str) -> None:
+    def line_told(self, circuit: str, _role: str, state: str, *rest: str) -> None:
+        """A change of a line was told: its state, its bits both ways, and at the end its codec and payload type."""
         row, codec, payload = self.facts.rows[int(circuit)], rest[-2], int(rest[-1])
         if (codec, payload) != (row.codec, row.payload):
             row.codec, row.payload = codec, payload
         row.state(self.changed, state)
 
     def _command(self, circuit: str, command: str, code: str) -> None:
-        self._done(circuit, Command(int(command)).word, Kind.COMMAND, code)
+        self.command_told(circuit, Command(int(command)).word, Kind.COMMAND, code)
 
     def _codec(self, circuit: str, codec: str, payload: str, code: str) -> None:
-        self._done(circuit, f'codec {Codec(int(codec)).word(self.facts.law)} {payload}', Kind.CODEC, code)
+        self.command_told(circuit, f'codec {Codec(int(codec)).word(self.facts.law)} {payload}', Kind.CODEC, code)
 
-    def _done(self, circuit: str, words: str, kind: Kind, code: str) -> None:
-        """A command that was done or refused. Its changes are reported next."""
+    def command_told(self, circuit: str, words: str, kind: Kind, code: str) -> None:
+        """A command was told, and whether it was done. Its changes are reported next."""
         self.changed, refusal = self.at, refusal_of(kind, int(code))
         self.facts.command(int(circuit), self.at, words, refusal.words if refusal else '')

@@ -29,22 +29,18 @@ from e1gw_common.call_lines import CallLine, csv_line, moment, read_calls
 from e1gw_common.faults import Parser, words_of_fault
 from e1gw_common.frames import FrameSearch
 from e1gw_common.lines import IN_CALL, read_config
-from e1gw_common.session import FRAME, SAMPLES_A_SECOND, BadSession, Kind, Record, records_for, records_in, refusal_of
+from e1gw_common.session import (FRAME, OCTETS_A_SECOND, SAMPLES_A_SECOND, BadSession, Kind, Record, records_for,
+                                 records_in, refusal_of)
 from e1gw_common.session_clock import Break, SessionClock, second_of
 from e1gw_common.session_files import InputError, RecordedSession, kept_between
-from e1gw_picture.beginning import Begun, begin_at
-from e1gw_picture.facts import SECOND, Facts
-from e1gw_picture.main import Progress, facts_of
-from e1gw_picture.page import draw
-from e1gw_picture.reading import SessionReading
-from e1gw_picture.svg import duration
+from e1gw_picture import Begun, Facts, Progress, SessionReading, begin_at, draw, duration, facts_of
 from .pcap import Announcements, PlacedRecords, Timed, configured_ends, packets_of, write_capture
 from .records import write_wave
 
 NAME = os.path.basename(sys.argv[0])    # in the package e1gw-call
 UNITS = '/var/lib/e1gw'
 BEFORE = 3                  # seconds before the seizure from which on the session is read
-AROUND = SECOND             # octets before and behind the call that are shown
+AROUND = OCTETS_A_SECOND    # octets before and behind the call that are shown
 COLUMNS = 48_000            # of its picture: 10 ms or less of a call of six minutes
 SILENCE = {'A': b'\xD5', 'mu': b'\xFF'}
 SIGNAL_FIELDS = 'time', 'TxAB', 'RxAB', 'state', 'command', 'answer'
@@ -147,15 +143,15 @@ class CallReading(SessionReading):
                 yield piece
         self.read(pieces(), reached)
 
-    def _line(self, circuit: str, _role: str, state: str, *rest: str) -> None:
-        super()._line(circuit, _role, state, *rest)
+    def line_told(self, circuit: str, _role: str, state: str, *rest: str) -> None:
+        super().line_told(circuit, _role, state, *rest)
         signal = Signal(self.changed, rest[0], rest[1], state)
         last = next((each for each in reversed(self.signals) if each.state), Signal(0))
         if int(circuit) == self.circuit and signal[1:] != last[1:]:
             self.signals.append(signal)
 
-    def _done(self, circuit: str, words: str, kind: Kind, code: str) -> None:
-        super()._done(circuit, words, kind, code)
+    def command_told(self, circuit: str, words: str, kind: Kind, code: str) -> None:
+        super().command_told(circuit, words, kind, code)
         if int(circuit) == self.circuit:
             refusal = refusal_of(kind, int(code))
             self.signals.append(Signal(self.at, command=words, answer=refusal.words if refusal else 'done'))
@@ -175,7 +171,7 @@ def begin_of(states: Iterable[tuple[int, int, str]], first: int, last: int) -> i
         if state in IN_CALL:
             calls.append((calls.pop()[0] if calls and calls[-1][1] == begin else begin, end))
     near = [(min(call[1], last) - max(call[0], first), call[0]) for call in calls]
-    return max((each for each in near if each[0] > -BEFORE * SECOND), default=(0, None))[1]
+    return max((each for each in near if each[0] > -BEFORE * OCTETS_A_SECOND), default=(0, None))[1]
 
 
 # ---- where it is ----
