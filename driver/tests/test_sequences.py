@@ -31,7 +31,7 @@ class KeptCase(WatcherCase):
     """A trunk of which all is kept."""
 
     keeps: tuple[str, ...] = ()
-    limits: dict[str, Any] = {'watcher.missed.PATIENCE': 20.0, 'watcher.connection.PATIENCE': 20.0}     # seconds
+    limits: dict[str, Any] = {}
     part = 0                    # which half of the events happens
 
     def begins_all(self) -> None:
@@ -315,7 +315,7 @@ class RingSequenceTests(SequenceCase):
     states."""
 
     keeps = '--keep', '1h'
-    limits = KeptCase.limits | {'watcher.recordings.FILES': 3600}
+    limits = {'watcher.recordings.FILES': 3600}
     part = 1
 
     def happens(self) -> list[Callable[[], None]]:

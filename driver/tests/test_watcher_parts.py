@@ -14,7 +14,7 @@ from e1gw.crc4 import Crc4Note
 from e1gw.holder_state import ACTIVE, INTERFACE, STANDBY, HolderState, TrunkPlaces, other_interface, state_in
 from e1gw_common.lines import LineCounts
 from e1gw.lock import InUse
-from e1gw.log_folder import LogWriter, logged_by
+from e1gw.log_folder import LogPair, LogWriter, logged_by
 from e1gw_common.session import MULTIFRAME, trunk_record
 from e1gw.slots import SlotsNote
 from e1gw.watcher import door
@@ -23,6 +23,8 @@ from e1gw.watcher.blocks import BlockStage, BlockedCircuits
 from e1gw.watcher.held import HeldNote, events_of, fault_of, nearest, wait_of
 from e1gw.watcher.main import WatchLock, is_over, parser
 from e1gw.watcher.memo import WatchNote, blocks_told, note_in
+from e1gw.watcher.missed import told_again
+from e1gw.watcher.process import start_process
 from e1gw.watcher.reader import LogReader, ReadingNote
 from e1gw.watcher.recordings import RecordingNote
 from e1gw.watcher.said import LineNote, SaidFile, SaidLine, SaidNote
@@ -225,3 +227,23 @@ class HolderDoorTests(support.LoopCase):
                          'reload: the holder does not answer within 0.1 s; it may still be done')
         self.assertRegex(await door.asked(self.path('hold'), 'quit'),
                          'quit: refused: there is no holder: .*No such file')
+
+
+class ToldAgainTests(support.LoopCase):
+    """A replay at which nobody can connect any more is not waited for, however long one may take to begin."""
+
+    def asked(self, *words: str) -> asyncio.Task[bytes]:
+        """A log is read again by this command, which listens nowhere."""
+        version = mock.Mock(start=lambda _, *more: start_process(words[0], words, *more))
+        return asyncio.create_task(told_again(version, [LogPair(1, 0, b'', b'')], self.folder))
+
+    async def test_one_that_ends(self) -> None:
+        with self.assertRaises(OSError):
+            await self.asked('/bin/false')
+
+    async def test_whose_folder_is_removed(self) -> None:
+        task = self.asked('/bin/sleep', '900')
+        await self.until(lambda: os.listdir(self.folder))
+        support.remove(self.folder)
+        with self.assertRaises(OSError):
+            await task

@@ -8,6 +8,7 @@ import select
 import socket
 import tempfile
 import time
+from asyncio.subprocess import Process
 from dataclasses import dataclass
 
 from ..log_folder import LogPair
@@ -65,7 +66,7 @@ async def told_again(version: ReplayVersion, pairs: list[LogPair], folder: str) 
             process = await version.start(['replay', '--load', f'/dev/fd/{state}', '--tell', path], [state], gives,
                                           nothing)
             try:
-                line = await connects(path)
+                line = await connects(path, process)
                 with line:
                     return await asyncio.to_thread(passed, line, given, b''.join(pair.records for pair in pairs))
             finally:
@@ -75,14 +76,15 @@ async def told_again(version: ReplayVersion, pairs: list[LogPair], folder: str) 
                 os.close(file)
 
 
-async def connects(path: str) -> socket.socket:
-    """A connection to a process that begins."""
+async def connects(path: str, process: Process) -> socket.socket:
+    """A connection to a process that begins. OSError if it ends before, or its folder is removed."""
     until = time.monotonic() + PATIENCE
     while True:
         try:
             return connected(path)
         except OSError:
-            if time.monotonic() > until:
+            may_come = process.returncode is None and os.path.exists(os.path.dirname(path))
+            if not may_come or time.monotonic() > until:
                 raise
             await asyncio.sleep(SOON)
 
