@@ -4,6 +4,7 @@ from __future__ import annotations
 import asyncio
 import os
 import unittest
+from contextlib import closing
 from unittest import mock
 
 from . import support
@@ -20,7 +21,7 @@ from e1gw.slots import SlotsNote
 from e1gw.watcher import door
 from e1gw.watcher.decisions import Flow
 from e1gw.watcher.blocks import BlockStage, BlockedCircuits
-from e1gw.watcher.held import HeldNote, events_of, fault_of, nearest, wait_of
+from e1gw.watcher.held import HeldNote, HeldTrunk, events_of, fault_of, nearest, wait_of
 from e1gw.watcher.main import WatchLock, is_over, parser
 from e1gw.watcher.memo import WatchNote, blocks_told, note_in
 from e1gw.watcher.missed import told_again
@@ -227,6 +228,33 @@ class HolderDoorTests(support.LoopCase):
                          'reload: the holder does not answer within 0.1 s; it may still be done')
         self.assertRegex(await door.asked(self.path('hold'), 'quit'),
                          'quit: refused: there is no holder: .*No such file')
+
+
+class HeldTrunkTests(support.LoopCase):
+    async def test_with_which_octet_a_program_begins(self) -> None:
+        """Also if its log is in a folder that was made again, and nobody has looked since."""
+        record, places = trunk_record(bytes(MULTIFRAME)), TrunkPlaces(self.folder)
+        trunk = HeldTrunk(places, STATE, 'e1gw', '', mock.Mock(), None)
+        trunk.reads(reader := LogReader(places.log, 1.0, None, mock.Mock(), bytes))
+        self.addCleanup(reader.log.close)
+        for folder, more in (places.log, 0), (self.path('again'), 3):
+            with closing(LogWriter(folder)) as log:
+                log.begin(0, b'', record)
+                if more:
+                    log.begin(len(record), b'', more * record)
+                    support.remove(places.log)
+                    os.rename(folder, places.log)
+            reader.read()
+            self.assertEqual(reader.octets, MULTIFRAME)
+        with open(f'{places.log}/lock', 'w', encoding='ascii') as lock:
+            lock.write(f'{os.getpid()}\n')
+
+        def came(_: asyncio.StreamReader, writer: asyncio.StreamWriter) -> None:
+            writer.write(f'e1gw tell 1 A\nat {3 * MULTIFRAME}\n'.encode())
+            writer.close()
+        await asyncio.start_unix_server(came, places.tell)
+        await trunk.know_place()
+        self.assertEqual((trunk.begun(), reader.octets), (MULTIFRAME, 4 * MULTIFRAME))
 
 
 class ToldAgainTests(support.LoopCase):

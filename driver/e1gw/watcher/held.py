@@ -179,6 +179,7 @@ class HeldTrunk(WatchedTrunk):
         if session != self._session:
             with connected(self._places.tell) as line:
                 told = await place_told(line)
+            reader.log.follows(reader.read)     # (its folder may have been made again)
             for _ in range(2):
                 reader.read()
             if reader.has_missed and not self._session:
