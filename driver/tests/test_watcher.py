@@ -217,17 +217,20 @@ class WatcherShowsTests(WatcherCase):
         self.assertEqual(self.watchers[-1].wait(SECONDS), 0)
 
 
-# A watcher each of whose reads of the log fails while a file `fails` is there.
+# A watcher each of whose reads of the log fails while a file `fails` is there, and waits while there is one `hangs`.
 FAILING = '''
-import errno, os, sys
+import errno, os, sys, time
 sys.path[:0] = [{driver!r}]
 from e1gw.watcher import main
 from tests import limits
 limits.put_given()
 real = os.pread
 def fails(file, *words):
-    if os.path.exists({path!r}) and '/log/' in os.readlink(f'/proc/self/fd/{{file}}'):
-        raise OSError(errno.EIO, os.strerror(errno.EIO))
+    if '/log/' in os.readlink(f'/proc/self/fd/{{file}}'):
+        while os.path.exists({hangs!r}):
+            time.sleep(0.01)
+        if os.path.exists({fails!r}):
+            raise OSError(errno.EIO, os.strerror(errno.EIO))
     return real(file, *words)
 os.pread = fails
 main.main()
@@ -238,64 +241,81 @@ class WatcherUnheardTests(WatcherCase):
     """Whatever becomes of the watcher, what is heard is what one uncut replay gives, and another program follows."""
 
     def watcher_words(self) -> list[str]:
-        text = FAILING.format(driver=os.path.join(support.TOP, 'driver'), path=self.path('fails'))
+        text = FAILING.format(driver=os.path.join(support.TOP, 'driver'), fails=self.path('fails'),
+                              hangs=self.path('hangs'))
         return [sys.executable, '-B', self.write('failing', text)]
 
+    def begins_trunk(self) -> None:
+        self.within = {'holder.decisions.DEATHS': 1 << 30}      # (no program waits)
+        self.begins('--program', self.scripted())
+
+    def begins_to_be_watched(self) -> None:
+        self.begins_trunk()
+        self.watches()
+        self.knows_calls()
+
+    def knows_calls(self) -> None:
+        self.known(lambda status: {row['state'] for row in status['circuits']} == {'answered'})
+
     def ten_deaths(self) -> None:
-        """Of the program, a reload and another holder in place of this one."""
+        """Of the program, a reload, and an update: of the program, and another holder in place of this one."""
         for number in (signal.SIGKILL, signal.SIGTERM) * 5:
             self.dies(number)
-        for words in 'reload force', 'replace':
-            self.assertEqual(self.asks(words), f'{words.split()[0]}: done')
+        for words in 'reload force', 'reload', 'replace':
+            self.scripted()
+            self.assertEqual(self.asks(words).splitlines()[-1], f'{words.split()[0]}: done')
             self.goes_on_all()
         self.as_uncut()
 
-    def begins_to_be_watched(self) -> None:
-        self.within = {'holder.decisions.DEATHS': 1 << 30}      # (no program waits)
-        self.begins()
-        self.watches()
-        self.known(lambda status: {row['state'] for row in status['circuits']} == {'answered'})
-
-    def test_absent(self) -> None:
-        self.within = {'holder.decisions.DEATHS': 1 << 30}
-        self.begins()
-        self.ten_deaths()
-        self.ends()
-
-    def test_killed(self) -> None:
-        """And the next one knows all calls."""
-        self.begins_to_be_watched()
-        self.watchers[-1].kill()
-        self.ten_deaths()
-        self.watches()
-        self.known(lambda status: {row['state'] for row in status['circuits']} == {'answered'})
+    def ends_watched(self) -> None:
+        """The last one knows all calls, and ends with the trunk."""
+        self.knows_calls()
         self.dies()
         self.as_uncut()
         self.ends()
         self.assertEqual(self.watchers[-1].wait(SECONDS), 0)
 
+    def test_absent(self) -> None:
+        self.begins_trunk()
+        self.ten_deaths()
+        self.ends()
+
+    def test_there(self) -> None:
+        self.begins_to_be_watched()
+        self.ten_deaths()
+        self.ends_watched()
+
+    def test_killed(self) -> None:
+        self.begins_to_be_watched()
+        self.watchers[-1].kill()
+        self.ten_deaths()
+        self.watches()
+        self.ends_watched()
+
     def test_stopped(self) -> None:
         self.begins_to_be_watched()
         with support.stopped(self.watchers[-1].pid):
             self.ten_deaths()
-        self.known(lambda status: {row['state'] for row in status['circuits']} == {'answered'})
-        self.ends()
-        self.assertEqual(self.watchers[-1].wait(SECONDS), 0)
+        self.ends_watched()
+
+    def test_hung(self) -> None:
+        """In a read of the log that does not return."""
+        self.begins_to_be_watched()
+        self.write('hangs', '')
+        self.ten_deaths()
+        os.unlink(self.path('hangs'))
+        self.ends_watched()
 
     def test_each_read_of_the_log_fails(self) -> None:
         """It is told once, and what the program tells is shown; once they do all is as it was."""
         self.write('fails', '')
         self.begins_to_be_watched()
         self.ten_deaths()
-        self.known(lambda status: {row['state'] for row in status['circuits']} == {'answered'})
+        self.knows_calls()
         self.assertEqual(support.text_of(self.path('watched')).count('the log cannot be read'), 1)
         os.unlink(self.path('fails'))
         support.until(lambda: 'the log is read again' in support.text_of(self.path('watched')))
-        self.known()
-        self.dies()
-        self.as_uncut()
-        self.ends()
-        self.assertEqual(self.watchers[0].wait(SECONDS), 0)
+        self.ends_watched()
 
 
 class WatcherAgainTests(WatcherCase):
