@@ -1,19 +1,19 @@
 """The command: begins to hold a trunk, or goes on where the holder before has left."""
 from __future__ import annotations
 
+import json
 import os
 import signal
 import stat
 import sys
 import time
-from typing import NoReturn
+from typing import Any, NoReturn
 
 from e1gw_common.fault_words import options_words, words_of_fault
 from e1gw_common.writers import hold_descriptors
 from ..lock import InUse, hold, let_go
 from .decisions import Beginning, beginning_of, is_active
 from .ending import LOST, finish
-from .files import plain_in, word_in
 from .holder import Holder
 from .job import Job
 from .journal import NAME, Severity, say
@@ -125,6 +125,24 @@ def begin(holder: Holder) -> None:
         holder.waits('it does not have the trunk')
     holder.keep()
     holder.tell()
+
+
+def plain_in(path: str) -> dict[str, Any]:
+    """What a file of JSON has; nothing if there is none."""
+    try:
+        with open(path, 'rb') as file:
+            return dict(json.load(file))
+    except (OSError, ValueError, TypeError):
+        return {}
+
+
+def word_in(path: str) -> str:
+    """The word that a file has; nothing if there is none."""
+    try:
+        with open(path, encoding='ascii') as file:
+            return file.read(64).strip()
+    except (OSError, ValueError):
+        return ''
 
 
 def version_left(holder: Holder, how: Beginning) -> Version | None:
