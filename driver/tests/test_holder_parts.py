@@ -4,6 +4,7 @@ from __future__ import annotations
 import contextlib
 import fcntl
 import functools
+import glob
 import os
 import select
 import shutil
@@ -39,11 +40,13 @@ TRIED = Tried('law = "A"\n', {1: ('one', 'bare'), 2: ('two', 'two')}, {1: ('127.
 
 class ImportTests(unittest.TestCase):
     def test_what_it_loads(self) -> None:
-        """Nothing of who watches, and nothing large: all of it is a part of the silence behind its death."""
+        """Nothing of who watches, at any time, and nothing large: all of it is a part of a silence."""
         code = f'import sys; sys.path[:0] = ["{support.TOP}/driver"]; from e1gw.holder import main; print(*sys.modules)'
         done = subprocess.run([sys.executable, '-ISs', '-c', code], stdout=subprocess.PIPE, check=True, text=True)
         loaded = {*done.stdout.split()}
-        self.assertEqual([name for name in loaded if name.startswith(('e1gw.service', 'e1gw.watcher'))], [])
+        self.assertEqual([name for name in loaded if name.startswith('e1gw.watcher')], [])
+        for path in glob.glob(f'{support.TOP}/driver/e1gw/holder/*.py'):
+            self.assertNotRegex(support.text_of(path), r'(from|import) [\w.]*\bwatcher\b')
         self.assertEqual(loaded & {'argparse', 'asyncio', 'logging', 'tomllib', 'subprocess', 'ipaddress'}, set())
 
 
