@@ -4,13 +4,14 @@ from __future__ import annotations
 
 import json
 import os
+from contextlib import suppress
 from typing import NamedTuple
 
 INTERFACE = 1               # of this file, and of the words at FOLDER/hold
 MEMORY = '/dev/shm'         # where the folder of a trunk is by default
-SAVED = 'begins with what was saved'   # `why` of a log that begins with a state of --state
 ACTIVE, STANDBY = 'active', 'standby'
 STARTED_BY = 'E1GW_HOLDER'          # in the environment of an e1gw-watch that a holder has started: its number
+STARTED = 19                # the place of that field in proc(5)'s stat, behind the name
 
 
 class HolderState(NamedTuple):
@@ -64,6 +65,19 @@ def state_in(octets: bytes) -> HolderState:
 def other_interface(number: object) -> HolderState:
     return HolderState(number if isinstance(number, int) else 0, '', 0, 0, 0, 0.0, '', False, False, 0.0, '', 0, (), '',
                        '', False, ACTIVE, '', (), '')
+
+
+def fields_of(pid: int) -> list[str]:
+    """What proc(5) says of a process behind its name, the state first; empty if it is not seen."""
+    with suppress(OSError), open(f'/proc/{pid}/stat', 'rb', 0) as file:
+        return file.read(4096).decode('ascii', 'replace').rpartition(')')[2].split()
+    return []
+
+
+def start_of(pid: int) -> int:
+    """When a process was started, in ticks since the machine was; 0 if it is not seen."""
+    fields = fields_of(pid)
+    return int(fields[STARTED]) if fields else 0
 
 
 class TrunkPlaces(NamedTuple):

@@ -9,10 +9,9 @@ from typing import Any
 from unittest import mock
 
 from . import support
-from e1gw.holder_state import ACTIVE, STANDBY, TrunkPlaces
+from e1gw.holder_state import ACTIVE, STANDBY, TrunkPlaces, start_of
 from e1gw.watcher import pair
 from e1gw.watcher.pair import NOT_TAKEN, REVERSE, TrunkPair
-from e1gw.watcher.process import start_of
 
 
 class PairTests(support.LoopCase):

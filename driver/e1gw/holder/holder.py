@@ -8,7 +8,9 @@ from contextlib import suppress
 from e1gw_common.fault_words import words_of_fault
 from e1gw_common.writers import put_file
 from .. import VERSION
-from ..holder_state import ACTIVE, INTERFACE, STANDBY, HolderState
+from e1gw_common.fault_words import words_of_fault
+from ..holder_state import ACTIVE, INTERFACE, STANDBY, HolderState, start_of
+from e1gw_common.writers import put_file
 from .decisions import Deaths, EndReason, Renewals
 from .ending import finish, follow, is_late
 from .journal import Severity, has_failed, say
@@ -16,7 +18,7 @@ from .line import HeldLine
 from .log import FILES, HeldLog
 from .loop import Loop
 from .options import Options
-from .program import HeldProgram, start_of
+from .program import HeldProgram
 from .reloading import Reloads
 from .requests import Door, HolderRequest
 from .roles import CHANGES, change_role, give_log

@@ -12,6 +12,7 @@ from contextlib import suppress
 from math import inf
 from typing import NamedTuple, Sequence
 
+from ..holder_state import fields_of
 from ..memory import in_memory
 from .decisions import EndFault
 
@@ -22,7 +23,6 @@ FAULTS = ((r'fault [56] ', EndFault.TRUNK), (r'.*\blog\b.* in use by', EndFault.
           (r'.*\blog\b.* has no state|state \d', EndFault.LOG_LOST),
           (r'cannot (open|write) the log\b', EndFault.LOG_WRITE))
 CRASHES = signal.SIGSEGV, signal.SIGBUS, signal.SIGABRT, signal.SIGILL, signal.SIGFPE, signal.SIGTRAP, signal.SIGSYS
-STARTED = 19                # the place of that field in proc(5)'s stat, behind the name
 
 
 class ProgramWants(NamedTuple):
@@ -152,19 +152,6 @@ def executable(program: int) -> int:
     if os.access(f'/proc/self/fd/{program}', os.X_OK):
         return program
     return in_memory(os.pread(program, os.fstat(program).st_size, 0))
-
-
-def fields_of(pid: int) -> list[str]:
-    """What proc(5) says of a process behind its name, the state first; empty if it is not seen."""
-    with suppress(OSError), open(f'/proc/{pid}/stat', 'rb', 0) as file:
-        return file.read(4096).decode('ascii', 'replace').rpartition(')')[2].split()
-    return []
-
-
-def start_of(pid: int) -> int:
-    """When a process was started, in ticks since the machine was; 0 if it is not seen."""
-    fields = fields_of(pid)
-    return int(fields[STARTED]) if fields else 0
 
 
 # ---- what it says ----

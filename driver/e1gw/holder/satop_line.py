@@ -11,14 +11,14 @@ import time
 from contextlib import contextmanager, suppress
 from typing import Any, Iterator, Mapping
 
-from e1gw_common.writers import put_file
+from ..holder_state import fields_of
 from ..satop_numbers import ENDS, begun_in, lines_in, number_of_now
 from .decisions import Openings
 from .journal import Severity, say
 from .line import HeldLine
 from .loop import Loop
 from .options import LineWants
-from .program import end_words, fields_of
+from .program import end_words
 
 MULTIFRAME = 512
 ONES = b'\xff' * 2 * MULTIFRAME         # behind which frame alignment is looked for again

@@ -15,7 +15,8 @@ from e1gw_common.faults import words_of_fault
 from e1gw_common.lines import SEIZURE_WAIT
 from e1gw_common.session import OCTETS_A_SECOND
 from ..events import Event, LogLost, RoleGiven, Tell, TrunkLost, TrunkOpened
-from ..holder_state import ACTIVE, INTERFACE, STANDBY, HolderState, TrunkPlaces, state_in
+from e1gw_common.faults import words_of_fault
+from ..holder_state import ACTIVE, INTERFACE, STANDBY, HolderState, TrunkPlaces, start_of, state_in
 from ..log_folder import logged_by
 from ..memory import in_memory
 from ..satop_numbers import number_of_now
@@ -23,7 +24,6 @@ from .card import CardWatch
 from .connection import connected
 from .door import asked
 from .blocks import KeptBlocks
-from .process import start_of
 from .reader import MOST_FOUND, LogReader
 from .replay import ReplayVersion
 from .said import LineNote, SaidLine

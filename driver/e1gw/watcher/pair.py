@@ -13,13 +13,14 @@ from e1gw_common.faults import words_of_fault
 from e1gw_common.tasks import Tasks, goes_on
 from e1gw_common.tls import context_of
 from ..events import Tell
+from e1gw_common.faults import words_of_fault
+from ..holder_state import start_of
 from ..log_folder import LogPair
 from .door import heard
 from .feed import FRESH, FeedServer
 from .held import HeldTrunk
 from .journal import NOTICE
 from .options import feeding_of
-from .process import start_of
 from .standby import FedLog, TrunkStandby
 
 PATIENCE = 30.0             # seconds for a promotion or its reverse

@@ -1,4 +1,4 @@
-"""Processes that a watcher starts, for replays and pictures; and what proc(5) says of one."""
+"""Processes that a watcher starts, for replays and pictures."""
 from __future__ import annotations
 
 import asyncio
@@ -15,14 +15,6 @@ TOTALS = 'records', 'octets', 'datagrams', 'dropped', 'port_faults', 'discarded_
 AT_END = {*TOTALS, *COUNTS, 'unreported'}       # what a program counts at its end
 PYTHON = 'import sys; sys.path[:0] = [sys.argv.pop(1)]; from {} import main; sys.exit(main())'
 TOP = os.path.dirname(os.path.dirname(os.path.dirname(os.path.abspath(__file__))))
-
-
-def start_of(pid: int) -> int:
-    """When a process was started, in ticks since the machine was; 0 if it is not seen."""
-    with suppress(OSError), open(f'/proc/{pid}/stat', 'rb', 0) as file:
-        fields = file.read(4096).decode('ascii', 'replace').rpartition(')')[2].split()
-        return int(fields[19]) if fields else 0
-    return 0
 
 
 async def start_process(executable: str, words: Sequence[str], passed: Iterable[int] = (), reads: int = PIPE,
