@@ -8,6 +8,9 @@ from e1gw_common.lines import LOSSES, REMOTE, State, circuit_words
 from e1gw_common.prometheus import Family, text_of
 from . import deaf
 from .dahdi import COUNTS, Alarm
+from .events import LOSSES, REMOTE
+from e1gw_common.lines import State, circuit_words
+from .satop import words_of_status
 
 Status = Mapping[str, Any]
 
@@ -154,8 +157,8 @@ def head_of(status: Status) -> list[str]:
         'alignment lost: ' + ', '.join(f'{what} {n}' for what, n in status['losses'].items())
         + f'; stalls {clock["stalls"]}{_slips(clock)}']
     lines += _pair_line(status) + _card_line(status) + _crc4_line(status)
-    lines += filter(None, [deaf.words_of_rows(status['circuits']), block_words(status['circuits']),
-                           codec_line(status['circuits'])])
+    lines += filter(None, [words_of_status(status.get('transport') or {}), deaf.words_of_rows(status['circuits']),
+                           block_words(status['circuits']), codec_line(status['circuits'])])
     if waiting := status.get('waiting'):
         lines.append(f'configured otherwise when their calls end (reload --when-idle): {circuit_words(waiting)}')
     lines += [f'ended: {what}: {why}' for what, why in status['ended'].items() if why is not None]

@@ -5,15 +5,36 @@ from __future__ import annotations
 
 import socket
 from contextlib import suppress
-from typing import Sequence
+from typing import Mapping, NamedTuple, Sequence
 
 from e1gw_common.addresses import host_and_port
 
 FIRST = 'satop '            # how a line of counts begins
-# What is reported: the name in the status, the count that grows, and the words. In silence the program plays by its own
-# clock and counts each tick; bits L and R are those of the packets that come (RFC 4553, 4.3).
-CONDITIONS = (('silent', 'ticks', 'packets missing'), ('far_fault', 'with_l', 'line fault at the far end (bit L)'),
-              ('far_silent', 'with_r', 'packets missing at the far end (bit R)'))
+
+
+class SatopCondition(NamedTuple):
+    """What is reported while a count grows: its name in the status, the count, and the words."""
+
+    name: str
+    grows: str
+    words: str
+
+
+# In silence the program plays by its own clock and counts each tick; bits L and R are those of the packets that come
+# (RFC 4553, 4.3).
+SILENT = SatopCondition('silent', 'ticks', 'packets missing')
+BITS = (SatopCondition('far_fault', 'with_l', 'line fault at the far end (bit L)'),
+        SatopCondition('far_silent', 'with_r', 'packets missing at the far end (bit R)'))
+# (The socket is connected, so that the kernel gives packets of another sender to no socket.)
+STRANGE = SatopCondition('other_source', 'ticks', 'perhaps packets from another source port or address than those of '
+                         'the far end: as many datagrams come that no socket takes')
+# Packets that come and are refused, with the option of --satop that has to be as the far end has it.
+REFUSED = (SatopCondition('other_size', 'malformed_other_size', 'packets of another size (size=)'),
+           SatopCondition('other_header', 'malformed_no_rtp_header', 'packets without RTP header (rtp=)'),
+           SatopCondition('other_header', 'malformed_no_control_word',
+                          'packets with another header, perhaps RTP (rtp=)'),
+           SatopCondition('other_header', 'malformed_other_length', 'packets with another length in their header'),
+           SatopCondition('other_header', 'malformed_short', 'packets shorter than their header'))
 
 
 def _text_of(address: str, port: int) -> str:
@@ -54,18 +75,45 @@ def counts_of(line: str) -> dict[str, int] | None:
     return {name: int(digits) for name, _, digits in pairs}
 
 
-class SatopCondition:
-    """Whether something holds that a count tells of: from when the count grows, until packets come and it does not."""
+class SatopSeen(NamedTuple):
+    """What `e1gw satop` has counted; datagrams that came to this machine for which there was no socket, if they were
+    looked at; and what holds."""
 
-    def __init__(self, count: str) -> None:
-        self.on = False
-        self._name, self._count, self._received = count, 0, 0
+    counts: dict[str, int] = {}
+    unheard: int | None = None
+    holding: tuple[SatopCondition, ...] = ()
 
-    def changes(self, counts: dict[str, int]) -> bool:
-        """Whether that changes with these counts."""
-        count, received = counts.get(self._name, 0), counts.get('received', 0)
-        grew, came = count > self._count, received > self._received
-        self._count, self._received = count, received
-        before = self.on
-        self.on = grew or self.on and not came
-        return self.on != before
+    def then(self, counts: dict[str, int], unheard: int) -> SatopSeen:
+        """The same with the next counts. What a count tells of holds from when it grows until packets come and it does
+        not; packets that are refused are not missing."""
+        def grown(count: str) -> int:
+            return counts.get(count, 0) - self.counts.get(count, 0)
+
+        def holds(what: SatopCondition) -> bool:
+            return grown(what.grows) > 0 or what in self.holding and grown('received') <= 0
+        refused = max(REFUSED, key=lambda each: grown(each.grows))
+        is_refused = grown(refused.grows) > max(0, grown('received'))
+        strange = self.unheard is not None and is_about(unheard - self.unheard, grown('ticks'))
+        missing = (SILENT, *[STRANGE] * strange) if holds(SILENT) else ()
+        return SatopSeen(counts, unheard, (*((refused,) if is_refused else missing), *filter(holds, BITS)))
+
+
+def is_about(found: int, wanted: int) -> bool:
+    """Whether datagrams came as often as packets are due."""
+    return 2 * abs(found - wanted) < wanted
+
+
+def status_of(seen: SatopSeen) -> dict[str, object]:
+    """The counts; all conditions by their names, 1 for those that hold, and those in words."""
+    names = {each.name for each in seen.holding}
+    named = {each.name: int(each.name in names) for each in (SILENT, STRANGE, *REFUSED, *BITS)}
+    return {**seen.counts, **named, 'satop': '; '.join(each.words for each in seen.holding)} if seen.counts else {}
+
+
+def words_of_status(its: Mapping[str, object]) -> str:
+    """A transport's line for people; nothing of one that is no SAToP."""
+    if 'satop' not in its:
+        return ''
+    refused = sum(int(str(its.get(each.grows, 0))) for each in REFUSED)
+    return (f'satop: {its["satop"] or "no fault"}; received {its.get("received", 0)}, lost {its.get("lost", 0)}, '
+            f'refused {refused}')

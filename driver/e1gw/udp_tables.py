@@ -1,11 +1,13 @@
 """What the kernel tells of the UDP sockets of circuits."""
 from __future__ import annotations
 
+from contextlib import suppress
 from typing import Any, Iterable, Iterator, Mapping
 
 from e1gw_common.lines import Line
 
 TABLES = ('/proc/self/net/udp', '/proc/self/net/udp6')
+SNMP = '/proc/self/net/snmp', '/proc/self/net/snmp6'
 PIECE = 1 << 16
 
 Sockets = Mapping[int, Mapping[str, int]]
@@ -30,6 +32,20 @@ def sockets_of(lines: Iterable[Line]) -> Sockets:
         circuit = ports.get(int(words[1].rpartition(':')[2], 16))
         if circuit:
             found[circuit] = {'waiting': int(words[4].partition(':')[2], 16), 'dropped': int(words[-1])}
+    return found
+
+
+def unheard() -> int:
+    """How many datagrams have come to this machine for which there was no socket (RFC 4113, udpNoPorts)."""
+    found, heads = 0, list[str]()
+    for name in SNMP:
+        with suppress(OSError), open(name, encoding='ascii') as file:
+            for words in map(str.split, file):
+                if words[0] == 'Udp:' and words[1].isdecimal():
+                    found += int(words[heads.index('NoPorts')])
+                elif words[0] == 'Udp6NoPorts':
+                    found += int(words[1])
+                heads = words
     return found
 
 

@@ -5,19 +5,31 @@ import shutil
 import socket
 import subprocess
 import unittest
+from typing import Sequence
 
 from . import support
 from .picture_made import pcap, udp
 from .support import SECONDS
 from e1gw import satop
-from e1gw.satop import SatopCondition, counts_of
+from e1gw.satop import SatopSeen, counts_of
 from e1gw_testing.ports import free_port
+from e1gw.udp_tables import unheard
 
 FIELDS = [f'pwsatop.{name}' for name in ('cw.rbit', 'cw.lbit', 'cw.rsv', 'cw.frag', 'cw.length', 'payload.len',
                                          'cw.seqno')]
 RTP_FIELDS = [f'rtp.{name}' for name in ('version', 'marker', 'p_type', 'seq', 'timestamp', 'ssrc', 'payload')]
 NOTED = '_ws.malformed or _ws.expert'
 PORT = 5000                 # in the file; the packets' own ports are whatever was free
+
+
+def told_of(counts: Sequence[dict[str, int]], heard_by_none: Sequence[int] = ()) -> list[tuple[int, str, bool]]:
+    """What changes with each of these counts, of a second each: its words, and whether it holds."""
+    seen, told = SatopSeen(), list[tuple[int, str, bool]]()
+    for at, each in enumerate(counts):
+        before, seen = seen, seen.then(each, [*heard_by_none, *[0] * len(counts)][at])
+        told += [(at, what.words, False) for what in before.holding if what not in seen.holding]
+        told += [(at, what.words, True) for what in seen.holding if what not in before.holding]
+    return told
 
 
 class SatopEndTests(unittest.TestCase):
@@ -47,11 +59,44 @@ class SatopEndTests(unittest.TestCase):
 
     def test_missing_packets(self) -> None:
         """They are missing from the first tick on, until packets come and no tick."""
-        missing, told = SatopCondition('ticks'), []
-        for received, ticks in ((5, 0), (9, 0), (9, 80), (9, 1080), (40, 1100), (1040, 1100), (2040, 1100)):
-            if missing.changes({'received': received, 'ticks': ticks}):
-                told.append((received, missing.on))
-        self.assertEqual(told, [(9, True), (1040, False)])
+        self.assertEqual(
+            told_of([{'received': received, 'ticks': ticks} for received, ticks in (
+                (5, 0), (9, 0), (9, 80), (9, 1080), (40, 1100), (1040, 1100), (2040, 1100))]),
+            [(2, 'packets missing', True), (5, 'packets missing', False)])
+
+    def test_packets_that_are_refused(self) -> None:
+        """A thousand come a second: that they are missing is said only while none come. A few strange ones among good
+        ones are no condition."""
+        size, missing = 'packets of another size (size=)', 'packets missing'
+        self.assertEqual(
+            told_of([{'received': received, 'ticks': ticks, 'malformed_other_size': refused}
+                     for received, ticks, refused in ((0, 1000, 0), (0, 2000, 900), (0, 3000, 1900), (0, 4000, 1900),
+                                                      (990, 4100, 2000), (1990, 4100, 2000))]),
+            [(0, missing, True), (1, missing, False), (1, size, True), (3, size, False), (3, missing, True),
+             (5, missing, False)])
+        for count, word in (('no_rtp_header', 'without RTP header (rtp=)'), ('no_control_word', 'perhaps RTP (rtp=)')):
+            (_, words, _), = told_of([{'ticks': 1000, f'malformed_{count}': 1000}])
+            self.assertIn(word, words)
+
+    def test_packets_from_another_port(self) -> None:
+        """As many datagrams without a socket as there are ticks, and not those of before, nor much fewer or more."""
+        for found, is_told in ((5000, 5950), True), ((5000, 5300), False), ((5000, 7000), False), ((1000,), False):
+            told = told_of([{'ticks': 1000 * at} for at in range(1, 1 + len(found))], found)
+            self.assertEqual([words for _, words, _ in told if 'source port' in words] != [], is_told, found)
+
+    def test_datagrams_without_a_socket(self) -> None:
+        """A socket that is joined to a peer takes none of another port (udp(7)); the kernel counts those."""
+        with socket.socket(socket.AF_INET, socket.SOCK_DGRAM) as here, socket.socket(
+                socket.AF_INET, socket.SOCK_DGRAM) as stranger, socket.socket(
+                socket.AF_INET6, socket.SOCK_DGRAM) as far, socket.socket(socket.AF_INET, socket.SOCK_DGRAM) as peer:
+            for each in here, stranger, peer:
+                each.bind(('127.0.0.1', 0))
+            here.connect(peer.getsockname())
+            for line, place in (stranger, here.getsockname()), (far, ('::1', free_port(kind=socket.SOCK_DGRAM))):
+                before = unheard()
+                for _ in range(50):
+                    line.sendto(b'x', place)
+                self.assertGreaterEqual(unheard() - before, 50, place)
 
 
 class DissectedTests(support.FolderCase):

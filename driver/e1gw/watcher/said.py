@@ -9,8 +9,9 @@ from typing import Any, Iterator, Sequence
 
 from ..crc4 import Crc4, Crc4Note, counts_in
 from ..events import Event, SatopChanged, Tell
-from ..satop import CONDITIONS, SatopCondition, counts_of
+from ..satop import SatopSeen, counts_of, status_of
 from ..slots import Slots, SlotsNote
+from ..udp_tables import unheard
 from .process import AT_END
 
 MOST_SAID = 1 << 20         # octets that are read at once
@@ -73,6 +74,7 @@ class LineNote:
     satop: SaidNote
     crc4: Crc4Note | None
     slots: SlotsNote | None
+    seen: SatopSeen = SatopSeen()
 
 
 class SaidLine:
@@ -87,8 +89,7 @@ class SaidLine:
             self.crc4.take_up(note.crc4)
         if note and note.slots and self.slots:
             self.slots.take_up(note.slots)
-        self._counts, self._tell = dict[str, int](), tell
-        self._conditions = [(name, SatopCondition(count), words) for name, count, words in CONDITIONS]
+        self._seen, self._tell = note.seen if note else SatopSeen(), tell
 
     def look(self) -> None:
         """Takes what was said since."""
@@ -99,8 +100,11 @@ class SaidLine:
                 self.crc4.follows()
             elif self.slots:
                 self.slots.follows()
-        for counts in filter(None, (counts_of(line) for line in self._satop.news() if line)):
-            self._take_counts(counts)
+        for line in self._satop.news():
+            if counts := counts_of(line or ''):
+                self._take_counts(counts)
+            elif line is None:
+                self._seen = self._seen._replace(counts={})
 
     def _take(self, line: str) -> None:
         counts = counts_in(line) if self.crc4 else {}
@@ -115,10 +119,10 @@ class SaidLine:
 
     def _take_counts(self, counts: dict[str, int]) -> None:
         """What `e1gw satop` has counted."""
-        self._counts = counts
-        for _, condition, words in self._conditions:
-            if condition.changes(counts):
-                self._tell(SatopChanged(words, condition.on))
+        before, self._seen = self._seen, self._seen.then(counts, unheard())
+        for each in (*before.holding, *self._seen.holding):
+            if (each in before.holding) is not (on := each in self._seen.holding):
+                self._tell(SatopChanged(each.words, on))
 
     def ended(self) -> None:
         """The line was closed."""
@@ -127,12 +131,11 @@ class SaidLine:
 
     def status(self) -> dict[str, Any]:
         """What the transport tells of itself, as plain values."""
-        conditions = {name: int(each.on) for name, each, _ in self._conditions} if self._counts else {}
-        return {**self._counts, **conditions, **(self.slots.status() if self.slots else {})}
+        return {**status_of(self._seen), **(self.slots.status() if self.slots else {})}
 
     def noted(self) -> LineNote:
         return LineNote(self._program.note, self._satop.note, self.crc4.note() if self.crc4 else None,
-                        self.slots.note() if self.slots else None)
+                        self.slots.note() if self.slots else None, self._seen)
 
     def close(self) -> None:
         self._program.close()
