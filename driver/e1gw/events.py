@@ -303,6 +303,19 @@ class RoleGiven(Event):
     role: str
 
 
+SENDERS = {'any': 'of any sender', 'first': 'from the address of the first one that a call accepted',
+           'host': 'from the address of peer_host alone', 'peer': 'from peer_host and peer_port alone'}
+
+
+@dataclass(frozen=True)
+class SendersGiven(Event):
+    name, usual = 'senders', Level.NOTICE
+    senders: str
+
+    def words(self) -> str:
+        return f'datagrams are received {SENDERS[self.senders]} (--senders {self.senders})'
+
+
 @dataclass(frozen=True)
 class Fed(Event):
     name, text, usual, turns = 'fed', 'fed by {0.by}, program {0.program} there', Level.NOTICE, ('not fed', False)

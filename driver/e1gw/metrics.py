@@ -8,7 +8,7 @@ from e1gw_common.lines import LOSSES, REMOTE, State, circuit_words
 from e1gw_common.prometheus import Family, text_of
 from . import deaf
 from .dahdi import COUNTS, Alarm
-from .events import LOSSES, REMOTE
+from .events import LOSSES, REMOTE, SendersGiven
 from e1gw_common.lines import State, circuit_words
 from .satop import words_of_status
 
@@ -161,6 +161,8 @@ def head_of(status: Status) -> list[str]:
                            block_words(status['circuits']), codec_line(status['circuits'])])
     if waiting := status.get('waiting'):
         lines.append(f'configured otherwise when their calls end (reload --when-idle): {circuit_words(waiting)}')
+    if status.get('senders') == 'any':
+        lines.append(SendersGiven('any').words())
     lines += [f'ended: {what}: {why}' for what, why in status['ended'].items() if why is not None]
     if status['stale']:
         lines.append('the counts of packets are not those of now')

@@ -1,4 +1,4 @@
-"""Which program carries a trunk, its version, and whose datagrams it receives."""
+"""Which program carries a trunk, and its version."""
 from __future__ import annotations
 
 import os
@@ -8,12 +8,6 @@ import subprocess
 PATIENCE = 5.0              # seconds for a program to say its version
 
 TOP = os.path.dirname(os.path.dirname(os.path.dirname(os.path.abspath(__file__))))
-
-HOST = 'host'
-SENDERS = {'any': 'datagrams of any sender are received (--senders any)',
-           'first': 'datagrams are received from the address of the first one that a call accepted (--senders first)',
-           HOST: 'datagrams are received from the address of peer_host alone (--senders host)',
-           'peer': 'datagrams are received from peer_host and peer_port alone (--senders peer)'}
 
 
 def program_of(asked: str | None, how: str | None = None) -> str:

@@ -15,12 +15,12 @@ from e1gw import ctl_all, metrics
 from e1gw.addresses import HiddenAddresses
 from e1gw.events import (AlarmChanged, BlockNews, Burst, CallsCleared, CardAlarm, CardAlarmChanged, CircuitsBlocked,
                          Connected, Crc4Change, Crc4Changed, Disconnected, Event, Fed, Flows, LineChanged, NotFed,
-                         RateChanged, RemoteAlarmChanged, RoleGiven, SatopChanged, Slip, SlotsChange, SlotsChanged,
-                         LogLost, Stalled, TrunkLost, TrunkOpened, WatchEnded, WrongRate)
+                         RateChanged, RemoteAlarmChanged, RoleGiven, SatopChanged, SendersGiven, Slip, SlotsChange,
+                         SlotsChanged, LogLost, Stalled, TrunkLost, TrunkOpened, WatchEnded, WrongRate)
 from e1gw_common.faults import Parser, checked, named, number, options_words, words_of_fault, words_of_refusal
 from e1gw_common.lines import Alignment, Role, State
 from e1gw_common.session import CommandRefusal
-from e1gw_tie import status as tie_status
+from e1gw.tie import status as tie_status
 from e1gw_tie.tie import Tie, TieOptions
 
 SAMPLE = re.compile(r'([a-z_0-9]+)(\{(?:[a-z_]+="(?:[^"\\]|\\.)*",?)*\})? (-?[0-9.e+-]+)')
@@ -186,6 +186,11 @@ class TrunkTextTests(unittest.TestCase):
                 ({'transport': {'packets': 1}}, 3, metrics.COLUMNS), ({'transport': None}, 3, metrics.COLUMNS),
                 ({'transport': CARD | {'red': False, 'loopback': False, 'e_bits': 0, 'code_violations': 5}}, 3,
                  'card: span 2, no alarm, code violations 5'),
+                ({'transport': {'satop': 'packets missing', 'received': 7, 'lost': 2, 'malformed_other_size': 3,
+                                'malformed_short': 1}}, 3, 'satop: packets missing; received 7, lost 2, refused 4'),
+                ({'transport': {'satop': ''}}, 3, 'satop: no fault; received 0, lost 0, refused 0'),
+                ({'senders': 'any'}, 3, 'datagrams are received of any sender (--senders any)'),
+                ({'senders': 'host'}, 3, metrics.COLUMNS),
                 ({'crc4': CRC4 | {'aligned': False, 'given_up': 0}}, 3, 'CRC-4: no multiframe alignment, lost 35; '
                  'errored 32 of 31 submultiframes, the other end reports 33'),
                 ({'crc4': CRC4 | {'aligned': None, 'given_up': 0}}, 3, 'CRC-4: not counted yet, lost 35; errored 32 '
@@ -256,7 +261,9 @@ class EventAndFaultTextTests(unittest.TestCase):
             (WrongRate(True, 20.38), 'wrong rate: 20.38 % of the octets of the last seconds came'),
             (WrongRate(False, 100.0), 'right rate again: 100.00 % of the octets of the last seconds came'),
             (WatchEnded('json', 'no room'), 'json ended, the calls go on: no room'),
-            (RoleGiven('active'), 'this machine is to be active'), (Fed('b', 'p'), 'fed by b, program p there'),
+            (RoleGiven('active'), 'this machine is to be active'),
+            (SendersGiven('any'), 'datagrams are received of any sender (--senders any)'),
+            (Fed('b', 'p'), 'fed by b, program p there'),
             (NotFed('b', 'w'), 'not fed by b: w'),
             (CardAlarmChanged(CardAlarm.NOT_OPEN, True), 'card: NOT OPEN alarm: the span is not started: dahdi_cfg'),
             (CardAlarmChanged(CardAlarm.RED, False), 'card: RED alarm over'),

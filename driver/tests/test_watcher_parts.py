@@ -8,7 +8,8 @@ from contextlib import closing
 from unittest import mock
 
 from . import support
-from e1gw.events import Crc4Changed, Event, LogLost, RoleGiven, SatopChanged, TrunkLost, TrunkOpened
+from e1gw.events import (Crc4Changed, Event, LogLost, RoleGiven, SatopChanged, SendersGiven, TrunkLost,
+                         TrunkOpened)
 from e1gw.calls import CallRecord, CallsNote, CircuitNote
 from e1gw.counts import PacketsNote, ToldCounts
 from e1gw.crc4 import Crc4Note
@@ -48,7 +49,10 @@ class HolderSaysTests(unittest.TestCase):
             (STATE, closed, [TrunkLost('the trunk has ended')]), (closed, STATE, [OPENED]),
             (STATE, STATE._replace(opened=6.0, why='the trunk has ended'), [TrunkLost('the trunk has ended'), OPENED]),
             (STATE, lost, [LogLost()]), (lost, lost._replace(since=9.0), []),
-            (STATE, closed._replace(role=STANDBY), [RoleGiven(STANDBY)])]
+            (STATE, closed._replace(role=STANDBY), [RoleGiven(STANDBY)]),
+            (None, STATE._replace(senders='any'), [SendersGiven('any'), OPENED]),
+            (STATE._replace(senders='any'), STATE, [SendersGiven('host')]),
+            (STATE, STATE._replace(senders='peer'), [SendersGiven('peer')]), (STATE, STATE._replace(senders=''), [])]
         for before, now, told in cases:
             self.assertEqual(events_of(before, now, {}), told)
 

@@ -11,12 +11,9 @@ from contextlib import contextmanager, suppress
 from dataclasses import dataclass
 from typing import TYPE_CHECKING, Any, Iterator
 
+from ..events import Event, LogLost, RoleGiven, SendersGiven, Tell, TrunkLost, TrunkOpened
 from e1gw_common.faults import words_of_fault
-from e1gw_common.lines import SEIZURE_WAIT
-from e1gw_common.session import OCTETS_A_SECOND
-from ..events import Event, LogLost, RoleGiven, Tell, TrunkLost, TrunkOpened
-from e1gw_common.faults import words_of_fault
-from ..holder_state import ACTIVE, INTERFACE, STANDBY, HolderState, TrunkPlaces, start_of, state_in
+from ..holder_state import ACTIVE, INTERFACE, STANDBY, HolderState, TrunkPlaces, state_in
 from ..log_folder import logged_by
 from ..memory import in_memory
 from ..satop_numbers import number_of_now
@@ -33,6 +30,7 @@ if TYPE_CHECKING:
     from .pair import TrunkPair
 
 MOST_APART = OCTETS_A_SECOND // 2       # octets by which what a program says of its place is late
+USUAL_SENDERS = 'host'      # of which nothing is told at first
 LOG_LOST = re.compile(r'cannot (open|write) the log\b')     # as a program says why it ends
 
 logger = logging.getLogger(__name__)
@@ -45,6 +43,8 @@ def events_of(before: HolderState | None, now: HolderState, transport: dict[str,
     told = list[Event]()
     if before and before.role != now.role:
         told.append(RoleGiven(now.role))
+    if now.senders not in ('', before and before.senders or USUAL_SENDERS):
+        told.append(SendersGiven(now.senders))
     was_open = before is not None and before.open
     is_another = now.open and not (before and was_open and before.opened == now.opened)
     if before and was_open and (is_another or not now.open) and now.role == before.role:
