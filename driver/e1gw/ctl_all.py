@@ -12,7 +12,9 @@ from typing import Any, BinaryIO, Callable, Iterable, Iterator, Mapping, NamedTu
 from e1gw_common.faults import words_of_fault
 from e1gw_common.lines import REMOTE
 from .deaf import words_of_rows
-from .metrics import block_words, state_of
+from .events import REMOTE
+from e1gw_common.faults import words_of_fault
+from .metrics import block_words, satop_words, state_of, wrong_rate
 
 SOCKETS, UNITS = '/run/e1gw', '/etc/e1gw'
 PATIENCE = 5.0              # seconds that a trunk has to answer
@@ -119,7 +121,8 @@ class TrunkLine(NamedTuple):
         alarms = f'; the other end: {", ".join(REMOTE[what] for what in far)}' if far and status['trunk_up'] else ''
         ended = [what for what, why in status['ended'].items() if why is not None]
         told = (f'; ended: {", ".join(ended)}' if ended else '') + ('; not fed' if status.get('fed') is False else '')
-        told += ''.join(f'; {words}' for words in (words_of_rows(rows), block_words(rows)) if words)
+        more = wrong_rate(status['clock']), satop_words(status), words_of_rows(rows), block_words(rows)
+        told += ''.join(f'; {words}' for words in more if words)
         late = sum(row['datagrams'].get('Late', 0) for row in rows)
         return cls(name, status['version'], since, str(sum(row['state'] == 'answered' for row in rows)),
                    str(sum(row['lost'] for row in rows)), str(late), f'{state_of(status)}{alarms}{told}')

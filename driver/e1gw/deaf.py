@@ -98,10 +98,19 @@ def words_of_rows(rows: Iterable[Mapping[str, object]]) -> str:
     return f'{HEARS_NOTHING}: {told}' if told else ''
 
 
+def why_call_deaf(call: CallLine) -> str:
+    """Why a call that has ended heard nothing at all; nothing if it heard, or was short."""
+    if not (call.answered and call.ended and call.received == '0'):
+        return ''
+    return why_deaf(round((second_of(call.ended) - second_of(call.answered)) * OCTETS_A_SECOND), call.cause)
+
+
+def refused_words(call: CallLine) -> str:
+    """What was discarded of a call, with the first cause; nothing without any."""
+    return f'{call.discarded} {call.cause}' if call.discarded not in ('', '0') else ''
+
+
 def words_of_call(call: CallLine) -> str:
     """That a call that has ended heard nothing at all; or what was discarded of it, with the first cause."""
-    if call.answered and call.ended and call.received == '0':
-        octets = round((second_of(call.ended) - second_of(call.answered)) * OCTETS_A_SECOND)
-        if why := why_deaf(octets, call.cause):
-            return f'{HEARS_NOTHING}: {why}'
-    return f'{call.discarded} {call.cause}' if call.discarded not in ('', '0') else ''
+    why = why_call_deaf(call)
+    return f'{HEARS_NOTHING}: {why}' if why else refused_words(call)

@@ -2,7 +2,7 @@
 from __future__ import annotations
 
 import time
-from typing import Any, Iterable, Mapping
+from typing import Any, Iterable, Mapping, NamedTuple
 
 from e1gw_common.lines import LOSSES, REMOTE, State, circuit_words
 from e1gw_common.prometheus import Family, text_of
@@ -14,7 +14,7 @@ from .satop import words_of_status
 
 Status = Mapping[str, Any]
 
-ALIGNED, NOT_OPEN, WRONG_RATE = 'aligned', 'not open', 'wrong rate'
+ALIGNED, NOT_OPEN = 'aligned', 'not open'
 BLOCK_WORDS = {'blocked': 'blocked by the operator', 'blocking': 'blocking, until their calls have ended'}
 OTHER = '*'                 # behind a codec that a command has given
 TRANSPORT = 'e1gw_transport'        # of what a transport tells, its own names and kinds
@@ -145,28 +145,43 @@ def state_of(status: Status) -> str:
         status['alarm'], LOSSES, ALIGNED)
 
 
-def head_of(status: Status) -> list[str]:
+class HeadLine(NamedTuple):
+    """A line above the circuits, and whether it tells of a fault."""
+
+    text: str
+    is_bad: bool = False
+
+
+def head_of(status: Status) -> list[HeadLine]:
     """The lines above the circuits."""
-    clock = status['clock']
-    at = time.strftime('%H:%M:%S', time.gmtime(status['time']))
-    lines = [
-        f'trunk {status["name"]}, e1gw {status["version"]}, '
-        + (NOT_OPEN if status.get('fault') else f'up {status["uptime"]:.0f} s{_rate(clock)}'),
-        f'{status["octets"] / 256_000:.1f} s of the trunk at {at} UTC, {state_of(status)}; the other end: '
-        + _far_end(status),
-        'alignment lost: ' + ', '.join(f'{what} {n}' for what, n in status['losses'].items())
-        + f'; stalls {clock["stalls"]}{_slips(clock)}']
-    lines += _pair_line(status) + _card_line(status) + _crc4_line(status)
-    lines += filter(None, [words_of_status(status.get('transport') or {}), deaf.words_of_rows(status['circuits']),
-                           block_words(status['circuits']), codec_line(status['circuits'])])
+    lines = _trunk_lines(status) + _pair_line(status) + _card_line(status) + _satop_line(status) + _crc4_line(status)
+    lines += [HeadLine(words, is_bad) for words, is_bad in (
+        (deaf.words_of_rows(status['circuits']), True), (block_words(status['circuits']), False),
+        (codec_line(status['circuits']), False)) if words]
     if waiting := status.get('waiting'):
-        lines.append(f'configured otherwise when their calls end (reload --when-idle): {circuit_words(waiting)}')
+        lines.append(HeadLine(f'configured otherwise when their calls end (reload --when-idle): '
+                              f'{circuit_words(waiting)}'))
     if status.get('senders') == 'any':
-        lines.append(SendersGiven('any').words())
-    lines += [f'ended: {what}: {why}' for what, why in status['ended'].items() if why is not None]
+        lines.append(HeadLine(SendersGiven('any').words()))
+    lines += [HeadLine(f'ended: {what}: {why}', True) for what, why in status['ended'].items() if why is not None]
     if status['stale']:
-        lines.append('the counts of packets are not those of now')
+        lines.append(HeadLine('the counts of packets are not those of now', True))
     return lines
+
+
+def _trunk_lines(status: Status) -> list[HeadLine]:
+    """Those that each trunk has."""
+    clock, state = status['clock'], state_of(status)
+    at = time.strftime('%H:%M:%S', time.gmtime(status['time']))
+    stands_by, hears = status.get('role') == 'standby', not any(status['remote_alarm'].values())
+    rate = NOT_OPEN if status.get('fault') else f'up {status["uptime"]:.0f} s{_rate(clock)}'
+    return [
+        HeadLine(f'trunk {status["name"]}, e1gw {status["version"]}, {rate}',
+                 bool(status.get('fault')) and not stands_by or bool(clock.get('rate_wrong'))),
+        HeadLine(f'{status["octets"] / 256_000:.1f} s of the trunk at {at} UTC, {state}; the other end: '
+                 f'{_far_end(status)}', not (stands_by or state == ALIGNED and hears)),
+        HeadLine('alignment lost: ' + ', '.join(f'{what} {n}' for what, n in status['losses'].items())
+                 + f'; stalls {clock["stalls"]}{_slips(clock)}')]
 
 
 def states_of(row: Status) -> tuple[str, ...]:
@@ -185,9 +200,19 @@ def block_words(rows: Iterable[Status]) -> str:
 
 def _rate(clock: Status) -> str:
     """The rate over the last seconds, if it is known."""
-    if clock.get('rate') is None:
-        return ''
-    return f', {WRONG_RATE if clock["rate_wrong"] else "rate"} {100 * clock["rate"]:.2f} %'
+    words = wrong_rate(clock) or ('' if clock.get('rate') is None else f'rate {100 * clock["rate"]:.2f} %')
+    return f', {words}' if words else ''
+
+
+def wrong_rate(clock: Status) -> str:
+    """The rate over the last seconds if it is wrong."""
+    return f'wrong rate {100 * clock["rate"]:.2f} %' if clock.get('rate_wrong') else ''
+
+
+def satop_words(status: Status) -> str:
+    """What is wrong with the packets of SAToP; nothing without it."""
+    words = (status.get('transport') or {}).get('satop')
+    return f'satop: {words}' if words else ''
 
 
 def codec_word(row: Status) -> str:
@@ -213,7 +238,7 @@ def _slips(clock: Status) -> str:
     return f', slips {clock["gaps"]} ({clock["gap_seconds"]:.1f} s){rate}'
 
 
-def _pair_line(status: Status) -> list[str]:
+def _pair_line(status: Status) -> list[HeadLine]:
     """The line of the other machine, if there is one."""
     if 'role' not in status:
         return []
@@ -221,28 +246,36 @@ def _pair_line(status: Status) -> list[str]:
     why = f': {status["feed_fault"]}' if status.get('feed_fault') else ''
     if others := ', '.join(map(str, status.get('differs', []))):
         why += f'; configured otherwise there: circuits {others}'
-    return [f'two machines: {whose} {"fed" if status["fed"] else "not fed"}{why}']
+    return [HeadLine(f'two machines: {whose} {"fed" if status["fed"] else "not fed"}{why}', not status['fed'])]
 
 
-def _card_line(status: Status) -> list[str]:
+def _card_line(status: Status) -> list[HeadLine]:
     """The line of a DAHDI card, if there is one."""
     its = status.get('transport') or {}
     if 'span' not in its:
         return []
     alarms = ', '.join(name for each in Alarm if its[str(each.name).lower()] for name in each.names())
     counts = ''.join(f', {name.replace("_", " ")} {its[name]}' for name in COUNTS if its.get(name))
-    return [f'card: span {its["span"]}, {alarms or "no alarm"}{counts}']
+    return [HeadLine(f'card: span {its["span"]}, {alarms or "no alarm"}{counts}', bool(alarms))]
 
 
-def _crc4_line(status: Status) -> list[str]:
+def _satop_line(status: Status) -> list[HeadLine]:
+    """The line of SAToP, if it is on."""
+    its = status.get('transport') or {}
+    return [HeadLine(words_of_status(its), bool(its['satop']))] if 'satop' in its else []
+
+
+def _crc4_line(status: Status) -> list[HeadLine]:
     """The line of CRC-4, if it is on."""
     crc4 = status.get('crc4')
     if crc4 is None:
         return []
     found = {True: 'multiframe alignment', False: 'no multiframe alignment', None: 'not counted yet'}[crc4['aligned']]
     given_up = f', of it {crc4["given_up"]} for 915 errored of 1000' if crc4['given_up'] else ''
-    return [f'CRC-4: {found}, lost {crc4["multiframes_lost"]}{given_up}; errored {crc4["errored"]} of '
-            f'{crc4["submultiframes"]} submultiframes, the other end reports {crc4["far_end_errored"]}']
+    return [HeadLine(
+        f'CRC-4: {found}, lost {crc4["multiframes_lost"]}{given_up}; errored {crc4["errored"]} of '
+        f'{crc4["submultiframes"]} submultiframes, the other end reports {crc4["far_end_errored"]}',
+        crc4['aligned'] is False)]
 
 
 def _row(status: Status, row: Mapping[str, Any]) -> str:
@@ -262,7 +295,8 @@ COLUMNS = (' n role     state       TxAB RxAB in state calls answered connected 
 
 def table(status: Status) -> str:
     """The state of a trunk for people."""
-    return '\n'.join([*head_of(status), COLUMNS, *(_row(status, row) for row in status['circuits'])]) + '\n'
+    rows = (_row(status, row) for row in status['circuits'])
+    return '\n'.join([*(line.text for line in head_of(status)), COLUMNS, *rows]) + '\n'
 
 
 def circuit_table(status: Status, circuit: int) -> str:

@@ -111,9 +111,7 @@ def status_of(seen: SatopSeen) -> dict[str, object]:
 
 
 def words_of_status(its: Mapping[str, object]) -> str:
-    """A transport's line for people; nothing of one that is no SAToP."""
-    if 'satop' not in its:
-        return ''
+    """The line of SAToP for people."""
     refused = sum(int(str(its.get(each.grows, 0))) for each in REFUSED)
     return (f'satop: {its["satop"] or "no fault"}; received {its.get("received", 0)}, lost {its.get("lost", 0)}, '
             f'refused {refused}')

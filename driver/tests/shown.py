@@ -13,7 +13,7 @@ from html.parser import HTMLParser
 from http.server import BaseHTTPRequestHandler, ThreadingHTTPServer
 from typing import Any, Iterator, Mapping
 
-from .support import SECONDS
+from .support import SECONDS, until
 from .test_trunk import aligned, call
 from .world import World, config_of
 from e1gw_testing.ports import free_port
@@ -22,13 +22,13 @@ BROWSER = 'chromium', '--headless', '--no-sandbox', '--disable-gpu', '--virtual-
 
 
 class ShownTables(HTMLParser):
-    """The rows of the bodies of a page's tables, by their ids, the states by which they are coloured, and how many
-    elements of each kind there are."""
+    """The rows of the bodies of a page's tables, by their ids, the states by which they are coloured, ids of red rows,
+    and how many elements of each kind there are."""
 
     def __init__(self, text: str) -> None:
         super().__init__()
         self.rows, self.states, self.tags = dict[str, list[list[str]]](), dict[str, str](), Counter[str]()
-        self.attributes = Counter[str]()
+        self.attributes, self.red = Counter[str](), list[str]()
         self._in = self._body = ''
         self.feed(text)
 
@@ -41,6 +41,7 @@ class ShownTables(HTMLParser):
             self.rows[self._body], self.states[self._body] = [], its.get('data-s') or ''
         elif self._body and tag == 'tr':
             self.rows[self._body].append([])
+            self.red += [self._body] * (its.get('class') == 'bad')
         elif self._body and tag == 'td':
             self.rows[self._body][-1].append('')
         self._in = tag
@@ -59,10 +60,12 @@ def wrong_tiles(shown: ShownTables, status: Mapping[str, Any]) -> Iterator[str]:
     calls = {call['circuit']: call for call in status['calls']}
     for row in status['circuits']:
         number, call = str(row['circuit']), calls.get(str(row['circuit']))
-        wanted = [[number, row['state'], row['role'], call is not None,
-                   *((row['codec'], call['lost'], f'{row["jitter_ms"]:.1f}') if call else ('', '', ''))]]
+        state = f'{row["state"]}, hears nothing: {row["deaf"]}' if row['deaf'] else row['state']
+        wanted = [[number, state, row['role'], call is not None,
+                   *((row['codec'], call['lost'] if call['lost'] != '0' else '', f'{row["jitter_ms"]:.1f}', '')
+                     if call else [''] * 4)]]
         found = [[*cells[:3], ':' in cells[3], *cells[4:]] for cells in shown.rows.get(f'c{number}', [])]
-        if found != wanted or shown.states[f'c{number}'] != row['state']:
+        if found != wanted or shown.states[f'c{number}'] != state:
             yield f'circuit {number} is shown as {found}, and is {wanted}'
 
 
@@ -79,7 +82,8 @@ class AnsweredRequests(BaseHTTPRequestHandler):
 
 
 class ShownPageTests(unittest.TestCase):
-    """A trunk with a name of HTML, of whose circuits one is in a call, one was in one, and one is blocked."""
+    """A trunk with a name of HTML, of whose circuits one is in a call that hears nothing for 2 s of the trunk, one was
+    in one, and one is blocked."""
 
     def setUp(self) -> None:
         self.port = free_port()
@@ -92,8 +96,13 @@ class ShownPageTests(unittest.TestCase):
             call(self.world, circuit)
         for command in 'clear 2', 'block 5':
             self.world.ask(command)
-        self.world.step(60)
+        until(self.is_deaf)
         self.status = self.world.status()
+
+    def is_deaf(self) -> bool:
+        """Whether a call is known to hear nothing, which is so after 2 s of the trunk."""
+        self.world.step(60)
+        return any(each['deaf'] for each in self.world.status()['circuits'])
 
     def got(self, path: str) -> bytes:
         """What a browser is answered; of events the first message."""
@@ -111,6 +120,7 @@ class ShownPageTests(unittest.TestCase):
         self.assertEqual([*wrong_tiles(shown, self.status)], [])
         self.assertEqual((shown.rows['alarms'], shown.tags['b'], shown.tags['script']), ([['no alarm', '']], 0, 1))
         self.assertEqual([row[1] for row in shown.rows['calls']], ['2'])
+        self.assertEqual(shown.red, ['state', 'c1'])
 
     def test_as_it_comes(self) -> None:
         self.compare(self.got('/').decode().partition('\r\n\r\n')[2])

@@ -164,7 +164,7 @@ class DeafCallTests(support.FolderCase):
                             (self.line('0', 3, answered=''), ''), (self.line('5', 3, discarded='0'), '')):
             self.assertEqual(words_of_call(line), words, line)
             shown = ended_row(csv_line(line), None)
-            self.assertEqual((shown[-2], 'class="bad"' in body_of('calls', [shown])),
+            self.assertEqual((shown.cells[-2], 'class="bad"' in body_of('calls', [shown])),
                              (words, words.startswith('hears')), line)
             self.assertTrue(row_of(line).endswith(f'  {words:27} id-7-1'), line)
 

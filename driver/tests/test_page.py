@@ -18,23 +18,26 @@ from .shown import ShownTables
 from .support import SECONDS
 from .test_trunk import FOUR, aligned, call
 from .world import World, config_of
-from e1gw_common.call_lines import CallLine
+from e1gw.calls import CallLine, csv_line
 from e1gw.ctl_all import TrunkHere, TrunkLine
 from e1gw.events import (AlarmChanged, CardAlarm, CardAlarmChanged, Connected, Crc4Change, Crc4Changed, Disconnected,
                          Event, Fed, Flows, LineChanged, NotFed, ReadEvents, RemoteAlarmChanged, Slip, SlotsChange,
                          SlotsChanged, Stalled, TrunkLost, TrunkOpened, WrongRate)
 from e1gw_common.lines import Alignment, Line, Role, State
-from e1gw.metrics import NOT_OPEN
+from e1gw.metrics import NOT_OPEN, head_of
 from e1gw.watcher import pages
 from e1gw.watcher.options import kept_of
-from e1gw.watcher.page import (POLICY, circuit_row, ended_row, length, message_of, page_of, trunk_row,
-                               trunks_page)
-from e1gw.watcher.pages import EventReaders
-from e1gw_common.web import NOTHING, PageRequest
+from e1gw.watcher.page import (POLICY, Look, Parts, ShownRow, circuit_row, ended_row, length, message_of, page_of,
+                               trunk_row, trunks_page)
+from e1gw.watcher.pages import EventReaders, PageRequest
 from e1gw_testing.ports import free_port
 from e1gw.udp_tables import sockets_of
 
 EVIL = '"><script>alert(1)</script><img src=x onerror=alert(1)>\'&</td></table>'
+WELL: dict[str, Any] = {
+    'name': 'west', 'version': '1', 'uptime': 1.0, 'time': 1.0, 'octets': 1, 'alarm': {}, 'remote_alarm': {},
+    'losses': {}, 'trunk_up': True, 'clock': {'stalled': False, 'stalls': 0}, 'circuits': [], 'ended': {},
+    'stale': False}
 BODIES = 'state', 'alarms', 'c1', 'c30', 'calls', 'events'
 
 
@@ -62,16 +65,48 @@ def line_changed(state: State) -> LineChanged:
 class PageTextTests(unittest.TestCase):
     def test_texts_stay_texts(self) -> None:
         """Whatever a name, a fault or an event says."""
-        text = page_of(EVIL, {each: [[EVIL, EVIL], [EVIL]] for each in BODIES}, ['/trunks']).decode()
-        shown = ShownTables(text)
+        rows = [ShownRow([EVIL, EVIL]), ShownRow([EVIL])]
+        shown = ShownTables(page_of(EVIL, dict.fromkeys(BODIES, rows), ['/trunks']).decode())
         self.assertEqual(shown.rows, {each: [[EVIL, EVIL], [EVIL]] for each in BODIES})
         self.assertEqual((shown.tags['script'], shown.tags['img'], shown.attributes['onerror']), (1, 0, 0))
-        self.assertEqual(message_of({'c1': [['\n\r\n']]}).count(b'\n'), 2)
+        self.assertEqual(message_of({'c1': [ShownRow(['\n\r\n'])]}).count(b'\n'), 2)
+
+    def test_red_rows(self) -> None:
+        """By a value, not by words: a trunk may be named so."""
+        rows = [ShownRow(['1', 'hears nothing: wrong rate']), ShownRow(['2', 'x'], Look.BAD)]
+        parts: Parts = {'events': rows, 'c1': []}
+        self.assertEqual(ShownTables(page_of('', parts, []).decode()).red, ['events'])
+        self.assertEqual(json.loads(message_of(parts)[6:])['events'],
+                         [[['1', 'hears nothing: wrong rate'], ''], [['2', 'x'], 'bad']])
+
+    def test_poor_calls(self) -> None:
+        """Those of which more than a hundredth is missing or was discarded."""
+        for received, lost, discarded, look in (('99', '1', '0', ''), ('98', '1', '1', 'poor'), ('0', '0', '0', ''),
+                                                ('', '', '', ''), ('9850', '100', '0', 'poor'), ('0', '5', '', 'poor')):
+            call = CallLine(*[''] * len(CallLine._fields))._replace(
+                circuit='7', received=received, lost=lost, discarded=discarded, ended='2026-11-29T10:01:05Z')
+            row = {'circuit': 7, 'state': 'acked', 'role': 'outgoing', 'for': 1.0, 'codec': 'pcma', 'payload': 8,
+                   'configured_codec': 'pcma', 'configured_payload': 8, 'jitter_ms': 0.0}
+            rows = ended_row(csv_line(call), None), circuit_row(WELL, row, {'7': call._asdict()})
+            self.assertEqual([each.look for each in rows], [look, look], call)
+        self.assertEqual(rows[1].cells[5:], ['5', '0.0', ''])
+
+    def test_red_lines(self) -> None:
+        """Those above the circuits, of what is wrong with the trunk now."""
+        rows: tuple[tuple[dict[str, Any], list[int]], ...] = (
+            ({}, []), ({'fault': 'no card'}, [0, 1]), ({'fault': 'standby', 'role': 'standby', 'fed': True}, []),
+            ({'fault': 'standby', 'role': 'standby', 'fed': False}, [3]), ({'remote_alarm': {'frame': True}}, [1]),
+            ({'alarm': {'frame': True}}, [1]), ({'transport': {'satop': ''}}, []), ({'transport': {'satop': 'x'}}, [3]),
+            ({'stale': True}, [3]), ({'ended': {'json': 'x'}}, [3]), ({'senders': 'any'}, []))
+        for more, red in rows:
+            lines = head_of(WELL | more)
+            self.assertEqual([at for at, line in enumerate(lines) if line.is_bad], red, more)
 
     def test_how_long(self) -> None:
         self.assertEqual([length(seconds) for seconds in (-1, 65.9, 3605)], ['0:00', '1:05', '1:00:05'])
-        times = {'seized': '', 'answered': '2026-11-29T10:00:00Z', 'ended': '2026-11-29T10:01:05Z'}
-        self.assertEqual(ended_row(','.join(times.get(name, name) for name in CallLine._fields), None)[:5],
+        times = {'seized': '', 'answered': '2026-11-29T10:00:00Z', 'ended': '2026-11-29T10:01:05Z', 'received': '',
+                 'lost': '', 'discarded': ''}
+        self.assertEqual(ended_row(','.join(times.get(name, name) for name in CallLine._fields), None).cells[:5],
                          ['11-29 10:01:05', 'circuit', 'direction', '1:05', 'by'])
 
     def test_trunks(self) -> None:
@@ -97,8 +132,8 @@ class PageTextTests(unittest.TestCase):
                 (None, 'acked', 'blocking', 'acked, blocking'), ('x', 'idle', None, NOT_OPEN)):
             row = {'circuit': 7, 'state': state, 'role': 'outgoing', 'blocked': blocked}
             status: dict[str, Any] = {'fault': fault, 'http': ['', 9102], 'circuits': [row]}
-            self.assertEqual(circuit_row(status, row, {})[:3], ['7', words, 'outgoing'])
-            self.assertIn(f'<i data-s="{words}" title="7 {words}">',
+            self.assertEqual(circuit_row(status, row, {}).cells[:3], ['7', words, 'outgoing'])
+            self.assertIn(f'data-s="{words}" title="7 {words}">',
                           trunk_row(TrunkHere(True, TrunkLine('a'), status), ''))
 
     def test_alarms_and_since_when(self) -> None:
@@ -138,7 +173,7 @@ class PageServerTests(unittest.IsolatedAsyncioTestCase):
     """Requests, and what is answered."""
 
     async def asyncSetUp(self) -> None:
-        texts = mock.Mock(parts={'c1': [['1', 'idle']]}, table='rows', metrics='samples', json='{}',
+        texts = mock.Mock(parts={'c1': [ShownRow(['1', 'idle'])]}, table='rows', metrics='samples', json='{}',
                           status={'name': 'west'})
         server = await asyncio.start_server(pages.TrunkServer(mock.AsyncMock(return_value=texts), '127.0.0.1', []).came,
                                             '127.0.0.1', 0)
@@ -190,7 +225,7 @@ class EventReaderTests(unittest.IsolatedAsyncioTestCase):
 
     async def fresh(self) -> Any:
         self.looks += 1
-        return mock.Mock(parts={'c1': [['1', 'x' * 3000 + str(self.looks)]], 'c2': [['2', 'y']]})
+        return mock.Mock(parts={'c1': [ShownRow(['1', 'x' * 3000 + str(self.looks)])], 'c2': [ShownRow(['2', 'y'])]})
 
     async def came(self, reader: asyncio.StreamReader, writer: asyncio.StreamWriter) -> None:
         name = (await reader.readline()).decode().strip()

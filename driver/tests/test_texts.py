@@ -224,7 +224,11 @@ class TrunkTextTests(unittest.TestCase):
                 ({'remote_alarm': {'frame': True, 'multiframe': False}, 'circuits': [], 'trunk_up': False,
                   'fed': False, 'ended': {'json': 'no room', 'session': 'x', 'calls': None}},
                  'west         1.2      1970-01-02 00:00      0        0        0  no trunk; ended: json, session; '
-                 'not fed'))
+                 'not fed'),
+                ({'clock': {'stalled': False, 'rate': 0.2, 'rate_wrong': True}, 'circuits': [],
+                  'transport': {'satop': 'packets missing'}},
+                 'west         1.2      1970-01-02 00:00      0        0        0  aligned; wrong rate 20.00 %; satop: '
+                 'packets missing'))
         for more, line in rows:
             self.assertEqual(str(ctl_all.TrunkLine.of('west', STATUS | more)), line)
 

@@ -146,7 +146,7 @@ class WatchEdgeTests(TrunkWatchCase):
             clock = {'stalls': 0, 'stalled': False, 'rate': 0.9985, 'rate_wrong': is_bad}
             parts = parts_of(later._values() | {'clock': clock}, PageNotes((), (), None))
             self.assertEqual('class="bad"' in body_of('state', parts['state'][:1]), is_bad)
-            self.assertIn(f'{what.replace("right ", "")} 99.85 %', parts['state'][0][0])
+            self.assertIn(f'{what.replace("right ", "")} 99.85 %', parts['state'][0].cells[0])
 
     async def test_who_fails_when_told(self) -> None:
         """It is reported where that was, the program is not blamed, and all others are told."""

@@ -9,18 +9,39 @@ import os
 import string
 import time
 from dataclasses import dataclass
+from enum import StrEnum
 from html import escape
-from typing import Any, Iterable, Mapping, Sequence
+from typing import Any, Iterable, Mapping, NamedTuple, Sequence
 
 from e1gw_common.call_lines import CallLine
 from e1gw_common.session import CIRCUITS
 from e1gw_common.session_clock import second_of
 from ..ctl_all import TrunkHere, TrunkLine
-from ..deaf import HEARS_NOTHING, words_of_call, words_of_row
+from ..deaf import refused_words, why_call_deaf, words_of_call, words_of_row
 from ..events import ReadEvent
-from ..metrics import NOT_OPEN, WRONG_RATE, codec_word, head_of, states_of
+from e1gw_common.lines import State
+from ..metrics import NOT_OPEN, codec_word, head_of, states_of
+from e1gw_common.session import CIRCUITS
+from e1gw_common.session_clock import second_of
 
-Rows = Sequence[Sequence[str]]
+
+
+class Look(StrEnum):
+    """How a row is shown, as its class: POOR where a hundredth of what should have come did not, BAD for a fault."""
+
+    PLAIN = ''
+    POOR = 'poor'
+    BAD = 'bad'
+
+
+class ShownRow(NamedTuple):
+    """A row of a table: the texts of its cells."""
+
+    cells: Sequence[str]
+    look: Look = Look.PLAIN
+
+
+Rows = Sequence[ShownRow]
 Parts = dict[str, Rows]             # the rows of each body of a table, by its id
 
 with open(os.path.join(os.path.dirname(__file__), 'page.html'), encoding='utf-8') as template:
@@ -30,11 +51,12 @@ PAGE = string.Template(WHOLE)
 STILL = string.Template(WHOLE.replace(f'<script>{SCRIPT}</script>', ''))
 LATER = '<noscript><meta http-equiv="refresh" content="10"></noscript>'
 SOON = '<meta http-equiv="refresh" content="5">'
+POOR = 100                  # of how many packets one that did not come, or was discarded, is too many
 # Each table: its class, what it has, the heads of its columns, and the ids of its bodies.
 TABLES: tuple[tuple[str, str, tuple[str, ...], Sequence[str]], ...] = (
     ('state', '', (), ['state']),
     ('alarms', '', ('alarm', 'since, UTC'), ['alarms']),
-    ('circuits', 'Circuits', ('n', 'state', 'role', 'call for', 'codec', 'lost', 'jitter'),
+    ('circuits', 'Circuits', ('n', 'state', 'role', 'call for', 'codec', 'lost', 'jitter', 'discarded'),
      [f'c{n}' for n in CIRCUITS]),
     ('last calls', 'The last calls', ('ended, UTC', 'n', 'direction', 'for', 'by', 'codec', 'received', 'lost', 'late',
                                       'discarded', 'its speech, packets and picture'), ['calls']),
@@ -72,34 +94,52 @@ def state_words(status: Mapping[str, Any], row: Mapping[str, Any]) -> str:
     return NOT_OPEN if status.get('fault') else ', '.join(filter(None, words))
 
 
-def circuit_row(status: Mapping[str, Any], row: Mapping[str, Any], calls: Mapping[str, Mapping[str, str]]) -> list[str]:
-    """A circuit: number, state, role, and of its call, if it is in one, how long it lasts, codec, loss and jitter."""
-    call = calls.get(str(row['circuit']))
+def look_of_circuit(status: Mapping[str, Any], row: Mapping[str, Any]) -> Look:
+    """That of a circuit, as far as is known."""
+    is_bad = not status.get('fault') and bool(row.get('deaf') or row['state'] == State.FAULT)
+    return Look.BAD if is_bad else Look.PLAIN
+
+
+def look_of_call(call: CallLine) -> Look:
+    """That of a call, by its packets."""
+    received, lost, discarded = (int(each or 0) for each in (call.received, call.lost, call.discarded))
+    return Look.POOR if POOR * (lost + discarded) > received + lost + discarded else Look.PLAIN
+
+
+def circuit_row(status: Mapping[str, Any], row: Mapping[str, Any], calls: Mapping[str, Mapping[str, str]]) -> ShownRow:
+    """A circuit: number, state, role, and of its call, if it is in one, how long it lasts, codec, loss and jitter, and
+    what was discarded."""
+    look = look_of_circuit(status, row)
     cells = [str(row['circuit']), state_words(status, row), row['role']]
-    if not call:
-        return [*cells, '', '', '', '']
-    begin = call['seized'] or call['answered']
+    if not (fields := calls.get(str(row['circuit']))):
+        return ShownRow([*cells, '', '', '', '', ''], look)
+    call = CallLine(**fields)
+    begin = call.seized or call.answered
     age = status['time'] - second_of(begin) if begin else row['for']
-    return [*cells, length(age), codec_word(row), call['lost'], f'{row["jitter_ms"]:.1f}']
+    lost = call.lost.removeprefix('0')      # (shown if there is any)
+    return ShownRow([*cells, length(age), codec_word(row), lost, f'{row["jitter_ms"]:.1f}', refused_words(call)],
+                    look or look_of_call(call))
 
 
-def ended_row(line: str, kept: str | None) -> list[str]:
+def ended_row(line: str, kept: str | None) -> ShownRow:
     """A call that has ended, by its line."""
     call = CallLine(*next(csv.reader([line])))
     begin, end = call.seized or call.answered, second_of(call.ended)
     lasted = length(end - second_of(begin)) if begin else ''
-    return [clock(end), call.circuit, call.direction, lasted, call.by, call.codec, call.received, call.lost, call.late,
-            words_of_call(call), call.call if kept is None else f'e1gw-call {call.call}{kept}']
+    return ShownRow([clock(end), call.circuit, call.direction, lasted, call.by, call.codec, call.received, call.lost,
+                     call.late, words_of_call(call), call.call if kept is None else f'e1gw-call {call.call}{kept}'],
+                    Look.BAD if why_call_deaf(call) else look_of_call(call))
 
 
 def parts_of(status: Mapping[str, Any], notes: PageNotes) -> Parts:
     """The rows of all tables."""
     calls = {call['circuit']: call for call in status['calls']}
-    alarms = [(each['words'], clock(each['time'])) for each in status['alarms']]
-    return {'state': [[line] for line in head_of(status)], 'alarms': alarms or [('no alarm', '')],
+    alarms = [ShownRow([each['words'], clock(each['time'])], Look.BAD) for each in status['alarms']]
+    return {'state': [ShownRow([line.text], Look.BAD if line.is_bad else Look.PLAIN) for line in head_of(status)],
+            'alarms': alarms or [ShownRow(['no alarm', ''])],
             **{f'c{row["circuit"]}': [circuit_row(status, row, calls)] for row in status['circuits']},
             'calls': [ended_row(line, notes.kept) for line in notes.ended],
-            'events': [(clock(each.time), each.words) for each in notes.events]}
+            'events': [ShownRow([clock(each.time), each.words]) for each in notes.events]}
 
 
 def message_of(parts: Parts) -> bytes:
@@ -111,15 +151,14 @@ def message_of(parts: Parts) -> bytes:
 
 def body_of(name: str, rows: Rows) -> str:
     """A body of a table; its state, by which it is coloured, is the second cell of its first row."""
-    state = rows[0][1] if rows and rows[0][1:] else ''
+    state = rows[0].cells[1] if rows and rows[0].cells[1:] else ''
     return f'<tbody id="{name}" data-s="{escape(state)}">{"".join(map(row_of, rows))}</tbody>'
 
 
-def row_of(row: Sequence[str]) -> str:
-    """A row of a table; one that tells of a fault is red. (The script of the page goes by the same words.)"""
-    cells = ''.join(f'<td>{escape(cell)}</td>' for cell in row)
-    is_bad = any(words in cell for cell in row for words in (HEARS_NOTHING, WRONG_RATE))
-    return f'<tr class="bad">{cells}</tr>' if is_bad else f'<tr>{cells}</tr>'
+def row_of(row: ShownRow) -> str:
+    """A row of a table. (The script of the page makes the same of it.)"""
+    cells = ''.join(f'<td>{escape(cell)}</td>' for cell in row.cells)
+    return f'<tr class="{row.look}">{cells}</tr>' if row.look else f'<tr>{cells}</tr>'
 
 
 def table_of(kind: str, caption: str, heads: Iterable[str], bodies: Iterable[str]) -> str:
@@ -137,11 +176,11 @@ def page_of(name: str, parts: Parts, more: Iterable[str]) -> bytes:
     return PAGE.substitute(title=escape(name), refresh=LATER, links=links, tables='\n'.join(tables)).encode()
 
 
-def outages_page(rows: Rows) -> str:
+def outages_page(rows: Sequence[Sequence[str]]) -> str:
     """A page to print of outages, whose first row has the heads of the columns."""
     heads = [head.replace('_', ' ') for head in rows[0]]
     return STILL.substitute(title='Outages', refresh='', links='', tables=table_of(
-        'last outages', '', heads, [body_of('outages', rows[1:])]))
+        'last outages', '', heads, [body_of('outages', [*map(ShownRow, rows[1:])])]))
 
 
 # ---- all trunks of a machine ----
@@ -159,9 +198,14 @@ def trunk_row(trunk: TrunkHere, here: str) -> str:
     host, port = status['http']
     host = HOST if host in (here, '0.0.0.0', '::') else f'[{host}]' if ':' in host else host
     name = f'<a href="//{escape(host)}:{port}/">{name}</a>' if port else name
-    states = ((row['circuit'], escape(state_words(status, row))) for row in status['circuits'])
-    lines = ''.join(f'<i data-s="{state}" title="{circuit} {state}"></i>' for circuit, state in states)
+    lines = ''.join(square_of(status, row) for row in status['circuits'])
     return f'<tr><td>{name}</td><td>{lines}</td>{"".join(f"<td>{cell}</td>" for cell in reversed(cells))}</tr>'
+
+
+def square_of(status: Mapping[str, Any], row: Mapping[str, Any]) -> str:
+    """A circuit, coloured by its state."""
+    state, look = escape(state_words(status, row)), look_of_circuit(status, row)
+    return f'<i class="{look}" data-s="{state}" title="{row["circuit"]} {state}"></i>'
 
 
 def trunks_page(trunks: Iterable[TrunkHere], here: str) -> bytes:
