@@ -1,15 +1,16 @@
-"""Packets that the network lost: by the numbers of all that came, and alike wherever they are shown."""
+"""Packets that the network lost, by the numbers of all that came; and figures of packets, alike wherever they are
+shown."""
 from __future__ import annotations
 
 import re
 import socket
 import unittest
 import urllib.request
-from typing import Iterable, Iterator
+from typing import Any, Iterable, Iterator, Mapping
 from unittest import mock
 
 from . import support
-from .picture_made import read_session, rtp
+from .picture_made import configured, read_session, rtp
 from .properties import PropertyCase
 from .shown import ShownTables
 from .test_reports import BEGIN, row
@@ -19,7 +20,8 @@ from .world import World
 from e1gw_common.call_lines import CallLine, read_calls
 from e1gw.ctl_all import TrunkLine
 from e1gw_common.lost import AHEAD, IN_A_ROW, WINDOW, ReceivedNumbers
-from e1gw_common.session import datagram_record
+from e1gw_picture.facts import Cell
+from e1gw_common.session import Kind, datagram_record, name_of, records_in
 from e1gw_testing.ports import free_port, free_ports
 
 COUNT, FIRST = 120, 65_500          # packets of a call, and the first number
@@ -104,6 +106,32 @@ class CountedToTheEndTests(TrunkWatchCase):
 
 # ---- one session with each kind of fault ----
 
+Figures = dict[str, int]            # received, lost, discarded and so on, and each cause
+
+
+def status_figures(row: Mapping[str, Any]) -> Figures:
+    """Those of a circuit's row in a status."""
+    counts = dict(row['datagrams'])
+    del counts['sent']
+    return {'received': counts.pop('admitted'), 'lost': row['lost'], **with_sum(counts)}
+
+
+def metric_figures(text: str, circuit: int) -> Figures:
+    """Those of a circuit in the metrics."""
+    front, value = rf'(?m)^e1gw_rtp_%s\{{.*circuit="{circuit}"%s\}} (\d+)$', r',%s="(\w+)"'
+    causes = {why: int(n) for why, n in re.findall(front % ('discarded_total', value % 'cause'), text)}
+    received = dict(re.findall(front % ('packets_total', value % 'direction'), text))['received']
+    (lost,) = re.findall(front % ('lost', ''), text)
+    return {'received': int(received), 'lost': int(lost), **with_sum(causes)}
+
+
+def drawn_figures(cell: Cell) -> Figures:
+    """Those of a circuit in a picture; repetitions count separately there."""
+    causes = {name_of(code): seen[0] for code, seen in cell.refused.items()}
+    repeated = {'Repeat': n} if (n := causes.pop('Repeat', 0) + cell.counts['repetitions']) else {}
+    return {'sent': cell.sent, 'received': cell.admitted, 'lost': cell.lost, **with_sum(causes | repeated)}
+
+
 def plan(without: Iterable[int], **at: int) -> Iterator[tuple[int, int, int, int]]:
     """All packets but some; those with the number `at` come so many turns later."""
     later = {int(name[1:]): turns for name, turns in at.items()}
@@ -133,7 +161,43 @@ def lost_in(packets: Plan) -> int:
     return len({*range(min(came), max(came))} - came)
 
 
-class ShownLossTests(unittest.TestCase):
+def judged(config: str, session: bytes) -> dict[int, Figures]:
+    """What `e1gw replay` says of the packets of each circuit, and what the plan says of those that were lost."""
+    found = {n: {'lost': lost_in(packets)} for n, (packets, _) in FAULTS.items()}
+    with configured(config) as path:
+        given = support.run('replay', '--config', path, given=session)
+    for record in records_in(given):
+        if record.kind is Kind.DATAGRAM:
+            count(found[record.circuit], 'sent')
+        elif record.kind is Kind.ANSWER and record.body[0] == Kind.DATAGRAM:
+            its, refusal = found[record.circuit], record.refusal
+            for name in ('discarded', refusal.label) if refusal else ('received',):
+                count(its, name)
+    return found
+
+
+def count(figures: Figures, name: str) -> None:
+    figures[name] = figures.get(name, 0) + 1
+
+
+def cause_of(text: str) -> Figures:
+    """What was discarded, in words: `9 Late`, `9 Late, 3 Repeat`, or nothing."""
+    return {why: int(number) for number, why in re.findall(r'(\d+) ([A-Z]\w+)', text)}
+
+
+def with_sum(causes: Figures) -> Figures:
+    return {**causes, 'discarded': sum(causes.values())}
+
+
+def of_line(call: CallLine) -> Figures:
+    """The figures of a call's line, whose first cause is all that it has of them."""
+    its = {'received': int(call.received), 'lost': int(call.lost), 'discarded': int(call.discarded)}
+    return its | ({'Late': int(call.late)} if int(call.late) else {}) | ({'sent': int(call.sent)} if call.ended else {})
+
+
+class ShownFigureTests(unittest.TestCase):
+    """The packets of a call that are told: as many wherever they are, and as many as replays of the session say."""
+
     def setUp(self) -> None:
         peers = {n: socket.socket(socket.AF_INET, socket.SOCK_DGRAM) for n in FAULTS}
         for line in peers.values():
@@ -168,24 +232,29 @@ class ShownLossTests(unittest.TestCase):
         with urllib.request.urlopen(request, timeout=support.SECONDS) as answer:
             return str(answer.read().decode())
 
-    def shown(self) -> dict[str, dict[int, int]]:
+    def shown(self) -> dict[str, dict[int, Figures]]:
         """What is shown of each circuit while calls last."""
-        status, rows = self.world.status(), self.world.ask('status').splitlines()
-        cells = ShownTables(self.got('/')).rows
-        found = {'status': {row['circuit']: row['lost'] for row in status['circuits']},
-                 'table': {int(row[0]): int(row[13]) for line in rows if (row := line.split())[0].isdecimal()
-                           and row[1] == 'outgoing'},
-                 'calls': {int(each['circuit']): int(each['lost']) for each in status['calls']},
-                 'page': {n: int(cells[f'c{n}'][0][5]) for n in FAULTS},
-                 'metrics': {int(n): int(lost) for n, lost in re.findall(
-                     r'e1gw_rtp_lost\{.*circuit="(\d+)"\} (\d+)\n', self.got('/metrics'))}}
-        self.assertEqual(TrunkLine.of('west', status).lost, str(sum(found['status'].values())))
+        status, cells, metrics = self.world.status(), ShownTables(self.got('/')).rows, self.got('/metrics')
+        lines = [line for line in self.world.ask('status').splitlines() if ' outgoing ' in line]
+        found = {'status': {row['circuit']: status_figures(row) for row in status['circuits']},
+                 'table': {int(row[0]): {'received': int(row[12]), 'lost': int(row[13]), **with_sum(cause_of(line))}
+                           for line in lines if (row := line.split())},
+                 'calls': {int(each['circuit']): of_line(CallLine(**each)) for each in status['calls']},
+                 'page': {n: {'lost': int(cells[f'c{n}'][0][5]), **cause_of(cells[f'c{n}'][0][7])} for n in FAULTS},
+                 'metrics': {n: metric_figures(metrics, n) for n in FAULTS}}
+        self.assertEqual(TrunkLine.of('west', status).lost, str(sum(each['lost'] for each in found['status'].values())))
         for n, (_, causes) in FAULTS.items():
             self.assertEqual({*status['circuits'][n - 1]['datagrams']} - {'sent', 'admitted'}, causes, n)
         return found
 
+    def ended(self) -> dict[str, dict[int, Figures]]:
+        """What is shown of each call that has ended."""
+        rows = ShownTables(self.got('/')).rows['calls']
+        return {'last calls': {int(row[1]): {'received': int(row[6]), 'lost': int(row[7]), 'Late': int(row[8]),
+                                             **cause_of(row[9])} for row in rows}}
+
     def test_alike_everywhere(self) -> None:
-        world, expected = aligned(self.world), {n: lost_in(packets) for n, (packets, _) in FAULTS.items()}
+        world = aligned(self.world)
         for circuit in FAULTS:
             call(world, circuit)
         self.send_all()
@@ -195,9 +264,13 @@ class ShownLossTests(unittest.TestCase):
         for circuit in FAULTS:
             world.ask(f'clear {circuit}')
         world.until(lambda: {row['state'] for row in world.told()['circuits'] if row['circuit'] in FAULTS} == {'idle'})
+        found |= self.ended()
         world.quit()
-        found['csv'] = {int(each.circuit): int(each.lost) for each in read_calls(world.path('calls'))}
-        facts = read_session(self.config, support.octets_of(world.path('session')))
-        found['picture'] = {n: facts.rows[n].count().lost for n in FAULTS}
+        found['csv'] = {int(each.circuit): of_line(each) for each in read_calls(world.path('calls'))}
+        session = support.octets_of(world.path('session'))
+        facts, expected = read_session(self.config, session), judged(self.config, session)
+        found['picture'] = {n: drawn_figures(facts.rows[n].count()) for n in FAULTS}
         for what, each in found.items():
-            self.assertEqual({n: each[n] for n in FAULTS}, expected, what)
+            for n in FAULTS:
+                figures = {name: value for name, value in each[n].items() if value or name in expected[n]}
+                self.assertEqual(figures, {name: expected[n].get(name, 0) for name in figures}, (what, n))
