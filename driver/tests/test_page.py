@@ -292,9 +292,9 @@ class WebPartTests(unittest.IsolatedAsyncioTestCase):
         self.assertGreater(min(found[7].values()), 0)
 
     async def test_a_slow_picture(self) -> None:
-        """It takes longer than somebody waits for it. One process draws, however many ask; they learn it, and later get
-        the page."""
-        drawn, begun = asyncio.Event(), list[Any]()
+        """It takes longer than somebody waits for it. One process draws, however many ask; they learn for how long it
+        has done so, and later get the page."""
+        drawn, begun, seconds = asyncio.Event(), list[Any](), 0
 
         async def start_process(_: str, words: list[str]) -> mock.Mock:
             begun.append(words)
@@ -304,12 +304,12 @@ class WebPartTests(unittest.IsolatedAsyncioTestCase):
             await drawn.wait()
             return 0, '', b'<html></html>\n'
         with mock.patch.multiple(pages, WAITED=0.01, put_behind=mock.Mock(), run_process=run_process,
-                                 start_process=start_process):
+                                 start_process=start_process, time=mock.Mock(monotonic=lambda: 100.0 + seconds)):
             page = pages.SlowPage(lambda: pages.picture_of(['--last', '60s', 'ring']))
-            for _ in range(3):
-                self.assertIn(b'is being made', await page.fresh())
+            for seconds in 0, 7, 30:
+                self.assertIn(f'<progress value="{seconds}" max='.encode(), await page.fresh())
             drawn.set()
-            while (found := await page.fresh()) == pages.SOON:
+            while b'<progress' in (found := await page.fresh()):
                 await asyncio.sleep(0)
         self.assertEqual((found, len(begun)), (b'<html></html>\n', 1))
         self.assertEqual(begun[0][-3:], ['--last', '60s', 'ring'])

@@ -50,7 +50,7 @@ STYLE, SCRIPT = (WHOLE.partition(f'<{tag}>')[2].partition(f'</{tag}>')[0] for ta
 PAGE = string.Template(WHOLE)
 STILL = string.Template(WHOLE.replace(f'<script>{SCRIPT}</script>', ''))
 LATER = '<noscript><meta http-equiv="refresh" content="10"></noscript>'
-SOON = '<meta http-equiv="refresh" content="5">'
+SOON, AT_ONCE = (f'<meta http-equiv="refresh" content="{seconds}">' for seconds in (5, 1))
 POOR = 100                  # of how many packets one that did not come, or was discarded, is too many
 # Each table: its class, what it has, the heads of its columns, and the ids of its bodies.
 TABLES: tuple[tuple[str, str, tuple[str, ...], Sequence[str]], ...] = (
@@ -181,6 +181,13 @@ def outages_page(rows: Sequence[Sequence[str]]) -> str:
     heads = [head.replace('_', ' ') for head in rows[0]]
     return STILL.substitute(title='Outages', refresh='', links='', tables=table_of(
         'last outages', '', heads, [body_of('outages', [*map(ShownRow, rows[1:])])]))
+
+
+def waiting_page(seconds: float, most: float) -> bytes:
+    """In place of one that has been in the making for so long, and takes `most` seconds at most."""
+    words = f'The page is being drawn: {seconds:.0f} s of {most:.0f} at most. It comes by itself.'
+    return STILL.substitute(title='e1gw', refresh=AT_ONCE, links='', tables=(
+        f'<p>{words}</p><progress value="{seconds:.0f}" max="{most:.0f}"></progress>')).encode()
 
 
 # ---- all trunks of a machine ----

@@ -14,7 +14,7 @@ from ..ctl_all import asked_trunks
 from ..metrics import exposition, table
 from ..priority import put_behind
 from ..udp_tables import sockets_of, with_sockets
-from .page import HOST, POLICY, PageNotes, Parts, message_of, page_of, parts_of, trunks_page
+from .page import HOST, POLICY, PageNotes, Parts, message_of, page_of, parts_of, trunks_page, waiting_page
 from .process import python_words, run_process, start_process
 
 EVERY = 0.25                        # seconds between two statuses
@@ -24,9 +24,6 @@ FRESH, DRAWN = 5.0, 60.0            # seconds in which nobody gets another pictu
 NICE = 15                           # of the process that draws
 WAITED, PATIENCE = 5.0, 0.5         # seconds for which somebody waits for it, and for the answer of another trunk
 WHOLE = b'</html>\n'
-SOON = (b'<!DOCTYPE html><html><head><title>e1gw</title><meta http-equiv="refresh" content="10"><meta name="viewport" '
-        b'content="width=device-width"><meta name="color-scheme" content="light dark"></head><body>The page is being '
-        b'made, and loads again by itself.</body></html>\n')
 DRAWING = "default-src 'none'; style-src 'unsafe-inline'"       # what one that is drawn may load
 
 
@@ -144,17 +141,18 @@ class SlowPage:
     def __init__(self, make: Callable[[], Awaitable[bytes | None]]) -> None:
         self._make, self._made, self._until = make, b'', 0.0
         self._making: asyncio.Task[None] | None = None
+        self._began = 0.0
 
     async def fresh(self) -> bytes:
-        """The page; nothing if it cannot be made. Who has waited for some seconds gets the last one, or the words that
-        it is being made."""
+        """The page; nothing if it cannot be made. Who has waited for some seconds gets the last one, or one that says
+        for how long it has been in the making."""
         if not self._making and time.monotonic() >= self._until:
-            self._making = asyncio.create_task(self._work())
+            self._making, self._began = asyncio.create_task(self._work()), time.monotonic()
         if self._making:
             await asyncio.wait([self._making], timeout=WAITED)
         if self._made.endswith(WHOLE):
             return self._made
-        return SOON if self._making else b''
+        return waiting_page(time.monotonic() - self._began, DRAWN) if self._making else b''
 
     async def _work(self) -> None:
         try:
