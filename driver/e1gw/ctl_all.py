@@ -12,8 +12,6 @@ from typing import Any, BinaryIO, Callable, Iterable, Iterator, Mapping, NamedTu
 from e1gw_common.faults import words_of_fault
 from e1gw_common.lines import REMOTE
 from .deaf import words_of_rows
-from .events import REMOTE
-from e1gw_common.faults import words_of_fault
 from .metrics import block_words, satop_words, state_of, wrong_rate
 
 SOCKETS, UNITS = '/run/e1gw', '/etc/e1gw'

@@ -8,8 +8,7 @@ from e1gw_common.lines import LOSSES, REMOTE, State, circuit_words
 from e1gw_common.prometheus import Family, text_of
 from . import deaf
 from .dahdi import COUNTS, Alarm
-from .events import LOSSES, REMOTE, SendersGiven
-from e1gw_common.lines import State, circuit_words
+from .events import SendersGiven
 from .satop import words_of_status
 
 Status = Mapping[str, Any]

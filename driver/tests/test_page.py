@@ -18,7 +18,7 @@ from .shown import ShownTables
 from .support import SECONDS
 from .test_trunk import FOUR, aligned, call
 from .world import World, config_of
-from e1gw.calls import CallLine, csv_line
+from e1gw_common.call_lines import CallLine, csv_line
 from e1gw.ctl_all import TrunkHere, TrunkLine
 from e1gw.events import (AlarmChanged, CardAlarm, CardAlarmChanged, Connected, Crc4Change, Crc4Changed, Disconnected,
                          Event, Fed, Flows, LineChanged, NotFed, ReadEvents, RemoteAlarmChanged, Slip, SlotsChange,
@@ -29,7 +29,8 @@ from e1gw.watcher import pages
 from e1gw.watcher.options import kept_of
 from e1gw.watcher.page import (POLICY, Look, Parts, ShownRow, circuit_row, ended_row, length, message_of, page_of,
                                trunk_row, trunks_page)
-from e1gw.watcher.pages import EventReaders, PageRequest
+from e1gw.watcher.pages import EventReaders
+from e1gw_common.web import NOTHING, PageRequest
 from e1gw_testing.ports import free_port
 from e1gw.udp_tables import sockets_of
 

@@ -20,7 +20,7 @@ from e1gw.events import (AlarmChanged, BlockNews, Burst, CallsCleared, CardAlarm
 from e1gw_common.faults import Parser, checked, named, number, options_words, words_of_fault, words_of_refusal
 from e1gw_common.lines import Alignment, Role, State
 from e1gw_common.session import CommandRefusal
-from e1gw.tie import status as tie_status
+from e1gw_tie import status as tie_status
 from e1gw_tie.tie import Tie, TieOptions
 
 SAMPLE = re.compile(r'([a-z_0-9]+)(\{(?:[a-z_]+="(?:[^"\\]|\\.)*",?)*\})? (-?[0-9.e+-]+)')

@@ -30,8 +30,8 @@ const MOST_KNOCKS: usize = 8;
 // How long it is waited for a device that gives none of what has come.
 const A_MOMENT_MS: u64 = 1;
 
-// How long it is waited before the system is asked anew what came before: of a pipe that was closed behind its
-// last octets it reports both at once.
+// How long it is waited before the system is asked anew what came before: of a pipe that was closed behind
+// its last octets it reports both at once.
 const A_WHILE_MS: u64 = 20;
 
 // The longest answer to a record of a client.

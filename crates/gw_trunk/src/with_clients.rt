@@ -83,8 +83,8 @@ impl<R: Read + Drop> WithClients<R> {
 
 /// What comes from the reader, whose descriptor this is, and from the clients of the Unix socket at a path;
 /// and what takes the answers to them. `gives_blocks` says whether a read gives a block, though more may have
-/// come, as of a card; of a pipe or a socket it gives all, up to its room. An old socket there at which nobody
-/// listens is replaced. The error is the system's.
+/// come, as of a card; of a pipe or a socket it gives all, up to its room. An old socket there at which
+/// nobody listens is replaced. The error is the system's.
 pub fn open_clients<R: Read + Drop>(
     rt: &(impl Files + Net + AllocGlobal),
     reader: R,

@@ -8,9 +8,7 @@ from contextlib import suppress
 from e1gw_common.fault_words import words_of_fault
 from e1gw_common.writers import put_file
 from .. import VERSION
-from e1gw_common.fault_words import words_of_fault
 from ..holder_state import ACTIVE, INTERFACE, STANDBY, HolderState, start_of
-from e1gw_common.writers import put_file
 from .decisions import Deaths, EndReason, Renewals
 from .ending import finish, follow, is_late
 from .journal import Severity, has_failed, say

@@ -11,6 +11,7 @@ import time
 from contextlib import contextmanager, suppress
 from typing import Any, Iterator, Mapping
 
+from e1gw_common.writers import put_file
 from ..holder_state import fields_of
 from ..satop_numbers import ENDS, begun_in, lines_in, number_of_now
 from .decisions import Openings

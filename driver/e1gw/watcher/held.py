@@ -11,9 +11,11 @@ from contextlib import contextmanager, suppress
 from dataclasses import dataclass
 from typing import TYPE_CHECKING, Any, Iterator
 
-from ..events import Event, LogLost, RoleGiven, SendersGiven, Tell, TrunkLost, TrunkOpened
 from e1gw_common.faults import words_of_fault
-from ..holder_state import ACTIVE, INTERFACE, STANDBY, HolderState, TrunkPlaces, state_in
+from e1gw_common.lines import SEIZURE_WAIT
+from e1gw_common.session import OCTETS_A_SECOND
+from ..events import Event, LogLost, RoleGiven, SendersGiven, Tell, TrunkLost, TrunkOpened
+from ..holder_state import ACTIVE, INTERFACE, STANDBY, HolderState, TrunkPlaces, start_of, state_in
 from ..log_folder import logged_by
 from ..memory import in_memory
 from ..satop_numbers import number_of_now

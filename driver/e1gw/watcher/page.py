@@ -14,16 +14,13 @@ from html import escape
 from typing import Any, Iterable, Mapping, NamedTuple, Sequence
 
 from e1gw_common.call_lines import CallLine
+from e1gw_common.lines import State
 from e1gw_common.session import CIRCUITS
 from e1gw_common.session_clock import second_of
 from ..ctl_all import TrunkHere, TrunkLine
 from ..deaf import refused_words, why_call_deaf, words_of_call, words_of_row
 from ..events import ReadEvent
-from e1gw_common.lines import State
 from ..metrics import NOT_OPEN, codec_word, head_of, states_of
-from e1gw_common.session import CIRCUITS
-from e1gw_common.session_clock import second_of
-
 
 
 class Look(StrEnum):

@@ -13,7 +13,6 @@ from e1gw_common.faults import words_of_fault
 from e1gw_common.tasks import Tasks, goes_on
 from e1gw_common.tls import context_of
 from ..events import Tell
-from e1gw_common.faults import words_of_fault
 from ..holder_state import start_of
 from ..log_folder import LogPair
 from .door import heard
