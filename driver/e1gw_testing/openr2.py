@@ -8,7 +8,7 @@ import subprocess
 import sys
 from typing import NamedTuple
 
-HERE = os.path.normpath(os.path.join(os.path.realpath(__file__), '..', '..', '..', '..', 'bench', 'exchange'))
+HERE = os.path.normpath(os.path.join(os.path.realpath(__file__), '..', '..', '..', 'bench', 'exchange'))
 HEAD = struct.Struct('>BBH')
 MULTIFRAME = 512
 
