@@ -11,6 +11,7 @@ COMMANDS = {
     'call': 'e1gw_tools.call', 'config': 'e1gw_tools.config', 'ctl': 'e1gw.ctl', 'exchange': 'e1gw_tools.exchange',
     'pcap': 'e1gw_tools.pcap', 'picture': 'e1gw_picture.main', 'records': 'e1gw_tools.records',
     'tie': 'e1gw_tie.main', 'trunk': 'e1gw.holder.main', 'watch': 'e1gw.watcher.main'}
+PICTURE = 'e1gw_picture'    # may not be there: it is of the package e1gw-picture
 # e1gw-trunk catches these signals. As it begins they wait until it does: they would end it, in systemd's view in order.
 HOLDER = 'trunk'
 CAUGHT = (signal.SIGHUP, signal.SIGUSR1, signal.SIGUSR2, signal.SIGTERM, signal.SIGINT)
@@ -42,4 +43,9 @@ def start(name: str) -> NoReturn:
     """Runs a command with the words of the command line."""
     if '_ARGCOMPLETE' in os.environ:
         complete()
-    sys.exit(load(name).main())
+    try:
+        sys.exit(load(name).main())
+    except ModuleNotFoundError as fault:
+        if fault.name != PICTURE:
+            raise
+        sys.exit(f'e1gw-{name}: it needs the package e1gw-picture')

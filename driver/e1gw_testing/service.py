@@ -11,7 +11,7 @@ from typing import Any
 
 from .waits import SECONDS
 
-LAUNCHER = os.path.realpath(os.path.join(os.path.dirname(__file__), '../../../bin/e1gw-trunk'))
+LAUNCHER = os.path.realpath(os.path.join(os.path.dirname(__file__), '../../bin/e1gw-trunk'))
 
 
 def ask(path: str, command: bytes) -> str:

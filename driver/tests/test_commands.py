@@ -53,6 +53,15 @@ class CommandNameTests(support.FolderCase):
         status, said, _ = ran(self.path('west'), '--help')
         self.assertEqual((status, 'e1gw-ctl' in said), (0, True))
 
+    def test_a_package_that_is_not_there(self) -> None:
+        """It is named."""
+        for folder in BIN, DRIVER:
+            shutil.copytree(folder, self.path(os.path.basename(folder)),
+                            ignore=shutil.ignore_patterns('__pycache__', 'e1gw_picture', 'tests'))
+        for name, *words in ('call', '1-2-3'), ('ctl', self.path('none'), 'why', '3'):
+            self.assertEqual(ran(self.path(f'bin/e1gw-{name}'), *words),
+                             (1, '', f'e1gw-{name}: it needs the package e1gw-picture\n'))
+
 
 class ProgramBuiltTests(support.FolderCase):
     """A command of a clone whose program is not built yet."""

@@ -75,7 +75,7 @@ class Tree(FolderCase):
         self.assertEqual(list(self.docs.wrong_heads()), ['driver/e1gw/tie/: does not begin with a sentence'])
 
     def test_links_out_of_the_package(self) -> None:
-        self.write('scripts/package', 'for file in OPERATING TIE; do\n')
+        self.write('debian/e1gw.docs', 'docs/OPERATING.md\ndocs/TIE.md\n')
         self.write('docs/OPERATING.md', '[a](TIE.md#b) [c](https://d) [e](pictures/f.svg)')
         self.write('docs/TIE.md', '[a](../README.md) [b](OPERATING.md)')
         self.assertEqual(list(self.docs.wrong_links()),

@@ -8,8 +8,6 @@ import unittest
 from . import TOP
 
 RUNS = '/run/systemd/system'        # is there where systemd runs
-COMPILES = 'py3compile', 'py3clean'
-CLEANS = ['py3clean', '-p', 'e1gw']
 
 
 def run(script: str, words: tuple[str, ...], units: str) -> tuple[list[str], str]:
@@ -17,12 +15,12 @@ def run(script: str, words: tuple[str, ...], units: str) -> tuple[list[str], str
     which these units run; and what the script prints."""
     with tempfile.TemporaryDirectory() as folder:
         said = os.path.join(folder, 'said')
-        for name in ('deb-systemd-invoke', 'systemctl', 'systemd-sysusers', 'rmdir', 'udevadm', *COMPILES):
+        for name in ('deb-systemd-invoke', 'systemctl', 'systemd-sysusers', 'rmdir', 'udevadm'):
             with open(os.path.join(folder, name), 'w', encoding='ascii') as file:
                 file.write(f'#!/bin/sh\necho {name} "$@" >> {said}\n'
                            f'case "$*" in *list-units*) printf %s "{units}" ;; esac\n')
             os.chmod(file.name, 0o755)
-        with open(os.path.join(TOP, 'dist', 'package', script), encoding='ascii') as file:
+        with open(os.path.join(TOP, 'debian', script), encoding='ascii') as file:
             text = file.read()
         if RUNS not in text:
             raise AssertionError(f'{script} does not look whether systemd runs')
@@ -42,7 +40,7 @@ def asked(script: str, *words: str) -> list[str]:
 
 def purged(folder: str) -> str:
     """What a purge says, if this folder is the root of the machine."""
-    with open(os.path.join(TOP, 'dist', 'package', 'postrm'), encoding='ascii') as file:
+    with open(os.path.join(TOP, 'debian', 'e1gw.postrm'), encoding='ascii') as file:
         text = file.read()
     for path in ('/var/lib', '/etc/'):
         text = text.replace(f' {path}', f' {folder}{path}')
@@ -56,18 +54,16 @@ class Units(unittest.TestCase):
                 if name.endswith('.service')]
 
     def test_removal_stops_all(self) -> None:
-        """Each kind of unit is stopped, ties before the trunks that they command."""
-        self.assertEqual(self.units(), ['e1gw-tie@*.service', 'e1gw-trunk@*.service', 'e1gw-watch@*.service'])
-        self.assertEqual(asked('prerm', 'remove'), ['deb-systemd-invoke', 'stop', *self.units(), *CLEANS])
+        """Each kind of unit is stopped. (The package of ties goes before that of the trunks that they command.)"""
+        tie, *trunk = self.units()
+        self.assertEqual((tie, trunk), ('e1gw-tie@*.service', ['e1gw-trunk@*.service', 'e1gw-watch@*.service']))
+        self.assertEqual(asked('e1gw-tie.prerm', 'remove'), ['deb-systemd-invoke', 'stop', tie])
+        self.assertEqual(asked('e1gw.prerm', 'remove'), ['deb-systemd-invoke', 'stop', *trunk])
 
     def test_upgrade_stops_none(self) -> None:
-        self.assertEqual(asked('prerm', 'upgrade', '0.2.0'), CLEANS)
-        self.assertEqual(asked('postrm', 'upgrade', '0.2.0'), [])
-        self.assertNotIn('stop', asked('postinst', 'configure', '0.1.0'))
-
-    def test_modules_are_compiled(self) -> None:
-        """Once, and not at each start."""
-        self.assertEqual(asked('postinst', 'configure')[:4], ['py3compile', '-p', 'e1gw', '/usr/lib/e1gw'])
+        for script in 'e1gw.prerm', 'e1gw.postrm', 'e1gw-tie.prerm', 'e1gw-tie.postrm':
+            self.assertEqual(asked(script, 'upgrade', '0.2.0'), [])
+        self.assertNotIn('stop', asked('e1gw.postinst', 'configure', '0.1.0'))
 
     def test_a_reload_is_asked_for(self) -> None:
         """The unit that is reloaded asks the holder for it, and fails where it is refused; a signal would say nothing,
@@ -82,13 +78,13 @@ class Units(unittest.TestCase):
     def test_an_update_names_what_runs_on(self) -> None:
         """Only where there was a version before, and only while units run."""
         running = 'e1gw-tie@west.service loaded active running\ne1gw-trunk@west.service loaded active running\n'
-        said = run('postinst', ('configure', '0.0.9'), running)[1]
+        said = run('e1gw.postinst', ('configure', '0.0.9'), running)[1]
         self.assertIn('before: e1gw-tie@west.service e1gw-trunk@west.service', said)
         self.assertIn('systemctl reload e1gw-trunk@west.service \n', said)
         self.assertIn('systemctl restart e1gw-tie@west.service \n', said)
-        self.assertNotIn('reload', run('postinst', ('configure', '0.0.9'), running.splitlines()[0])[1])
-        self.assertEqual(run('postinst', ('configure', '0.0.9'), '')[1], '')
-        self.assertEqual(run('postinst', ('configure', ''), running)[1], '')
+        self.assertNotIn('reload', run('e1gw.postinst', ('configure', '0.0.9'), running.splitlines()[0])[1])
+        self.assertEqual(run('e1gw.postinst', ('configure', '0.0.9'), '')[1], '')
+        self.assertEqual(run('e1gw.postinst', ('configure', ''), running)[1], '')
 
     def test_purge_says_what_is_left(self) -> None:
         """Recordings with their size, and each other thing that stays; nothing where nothing does."""
@@ -110,10 +106,11 @@ class Units(unittest.TestCase):
 
     def test_cards_that_are_there_are_given(self) -> None:
         """By events of `add`: those of `change` would take links away."""
-        said = asked('postinst', 'configure')
+        said = asked('e1gw.postinst', 'configure')
         self.assertLess(said.index('--reload'), said.index('--subsystem-match=dahdi_channels'))
         self.assertIn('--action=add', said)
 
     def test_units_are_read_anew(self) -> None:
-        for script, word in (('postinst', 'configure'), ('postrm', 'remove')):
+        for script, word in (('e1gw.postinst', 'configure'), ('e1gw.postrm', 'remove'),
+                             ('e1gw-tie.postinst', 'configure'), ('e1gw-tie.postrm', 'remove')):
             self.assertIn('daemon-reload', asked(script, word))
