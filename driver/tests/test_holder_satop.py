@@ -1,6 +1,7 @@
 """The line of an emulated circuit, whose `e1gw satop` is a script: what becomes of it, and of its numbers."""
 from __future__ import annotations
 
+import errno
 import os
 import signal
 import stat
@@ -78,11 +79,11 @@ class HeldSatopTests(support.FolderCase):
         for number in signal.SIGKILL, signal.SIGSTOP:
             self.goes_round(line)
             support.until(lambda: 'sent=3' in support.text_of(self.path('satop')))
-            before, first = line._pid, int(support.until(lambda: words_of(line._pid))[-1])
+            before, first = line.pid, int(support.until(lambda: words_of(line.pid))[-1])
             with mock.patch('time.time', lambda: 0.0):
                 os.kill(before, number)
-                self.until(lambda: line._pid not in (0, before), line)
-            words = support.until(lambda: words_of(line._pid))
+                self.until(lambda: line.pid not in (0, before), line)
+            words = support.until(lambda: words_of(line.pid))
             self.assertEqual(words[-2:], ['--sequence', str(first + 3 & 0xffff)])
         self.assertEqual(self.goes_round(line), b'\xff' * 256)
         self.assertEqual((line.why_ended(0), line.fault), ('', ''))
@@ -90,32 +91,33 @@ class HeldSatopTests(support.FolderCase):
     def test_the_next_holder(self) -> None:
         """It begins with a pair of its own, and goes on behind the numbers; it looks no names up again."""
         line = self.line(SCRIPT)
-        first = int(support.until(lambda: words_of(line._pid))[-1])
+        first = int(support.until(lambda: words_of(line.pid))[-1])
         support.until(lambda: 'sent=3' in support.text_of(self.path('satop')))
         self.assertEqual(line.kept(), {})
         line.close()
         with mock.patch('e1gw.satop.addresses_of', side_effect=OSError), \
                 mock.patch('time.time', lambda: 0.0):
             again = self.line(SCRIPT)
-        self.assertEqual(support.until(lambda: words_of(again._pid))[-1], str(first + 3 & 0xffff))
+        self.assertEqual(support.until(lambda: words_of(again.pid))[-1], str(first + 3 & 0xffff))
 
     def test_the_process_that_it_becomes(self) -> None:
         """It has the same pair and the same process, and sees its end."""
         line = self.line(SCRIPT)
         again = SatopLine(line.options, line.files, self.loop)
         again.take_up(line.note())
-        self.loop.leave(line._file)
-        pid, line._pid, line.files = line._pid, 0, {}
-        self.assertEqual(again._pid, pid)
+        assert line._child
+        self.loop.leave(line._child._file)
+        pid, line._child, line.files = line.pid, None, {}
+        self.assertEqual(again.pid, pid)
         os.kill(pid, signal.SIGKILL)
-        self.until(lambda: again._pid not in (0, pid), again)
+        self.until(lambda: again.pid not in (0, pid), again)
         self.goes_round(again)
         again.close()
 
     def test_multiframes_are_looked_for_again(self) -> None:
         """With CRC-4 both ends are given ones behind another one."""
         line, found = self.line(SCRIPT, crc4=True), bytearray()
-        os.kill(line._pid, signal.SIGKILL)
+        os.kill(line.pid, signal.SIGKILL)
 
         def comes() -> bool:
             try:
@@ -144,10 +146,21 @@ class HeldSatopTests(support.FolderCase):
         """It is tried until it can be."""
         line = self.line(SCRIPT, reopens=True)
         os.rename(self.path('e1gw'), self.path('away'))
-        os.kill(line._pid, signal.SIGKILL)
-        self.until(lambda: not line._pid, None)
+        os.kill(line.pid, signal.SIGKILL)
+        self.until(lambda: not line.pid, None)
         os.rename(self.path('away'), self.path('e1gw'))
         self.goes_round(line)
+
+    def test_one_whose_end_cannot_be_waited_for(self) -> None:
+        """It is ended, and another one is."""
+        line = self.line(SCRIPT, reopens=True)
+        with mock.patch('os.pidfd_open', side_effect=OSError(errno.EMFILE, os.strerror(errno.EMFILE))) as opens:
+            os.kill(line.pid, signal.SIGKILL)
+            self.until(lambda: opens.called, line)
+        for _ in range(2):
+            self.goes_round(line)
+            os.kill(line.pid, signal.SIGKILL)
+            support.until(lambda: support.state_of(line.pid) in ('', 'Z'))
 
     def test_an_address_that_comes_later(self) -> None:
         """Of two machines the one that takes over may have it a moment later. It was tried again later and later."""

@@ -37,7 +37,6 @@ def follow(holder: Holder, program: HeldProgram, status: int, now: float) -> Non
     holder.why = str(end.reason.value) if is_asked and end.is_well else f'the program {words}'
     if end.was_up:                          # (else what was lost before it is still to be told)
         holder.lost = '' if end.is_well else LOST
-    holder.loop.leave(program.file)
     program.close()
     holder.program, holder.reason = None, EndReason.NONE
     decided = after_end(end)

@@ -10,11 +10,12 @@ import socket
 import struct
 from contextlib import suppress
 from math import inf
-from typing import NamedTuple, Sequence
+from typing import Callable, NamedTuple, Sequence
 
 from ..holder_state import fields_of
 from ..memory import in_memory
 from .decisions import EndFault
+from .loop import Loop
 
 NO_RECORD = bytes(4)        # the program closes the connection for that, and logs nothing
 MOST_SAID = 1 << 20         # octets of what it says that are kept
@@ -37,13 +38,39 @@ class ProgramWants(NamedTuple):
     words: Sequence[str]
 
 
+class Child:
+    """A process that this one has started. `ends` is called once it has ended, until its status is taken."""
+
+    def __init__(self, pid: int, loop: Loop, ends: Callable[[], object] = lambda: None) -> None:
+        """OSError if nobody can wait for its end: then it is ended, too."""
+        self.pid, self._loop = pid, loop
+        try:
+            self._file = os.pidfd_open(pid)
+        except OSError:
+            self.kill()
+            os.waitpid(pid, 0)
+            raise
+        loop.watch(self._file, ends)
+
+    def kill(self) -> None:
+        os.kill(self.pid, signal.SIGKILL)       # (its number is no other's before its status was taken)
+
+    def ended(self) -> int | None:
+        """Its status once it has ended, negative for a signal. To be called no more then."""
+        pid, status = os.waitpid(self.pid, os.WNOHANG)
+        if not pid:
+            return None
+        self._loop.leave(self._file)
+        os.close(self._file)
+        return os.waitstatus_to_exitcode(status)
+
+
 class HeldProgram:
     """One that runs. `deadline` is until when it is to carry the trunk."""
 
-    def __init__(self, pid: int, leash: int, said: int, deadline: float = inf) -> None:
-        self.pid, self.leash, self.said, self.deadline = pid, leash, said, deadline
-        self.is_up = deadline == inf
-        self.file = watched(pid)
+    def __init__(self, child: Child, leash: int, said: int, deadline: float = inf) -> None:
+        self._child, self.leash, self.said, self.deadline = child, leash, said, deadline
+        self.pid, self.is_up = child.pid, deadline == inf
         self.asked: float | None = None         # when it was asked to end
         self.hangs = False
         self._lines: tuple[socket.socket, socket.socket] | None = None
@@ -51,7 +78,7 @@ class HeldProgram:
     # ---- its beginning ----
 
     @classmethod
-    def started(cls, wants: ProgramWants, deadline: float) -> HeldProgram:
+    def started(cls, wants: ProgramWants, loop: Loop, deadline: float) -> HeldProgram:
         """OSError if it cannot be started."""
         end, leash = os.pipe()
         opened = [end]
@@ -59,7 +86,7 @@ class HeldProgram:
             opened.append(config := in_memory(wants.config.encode()))
             program = executable(wants.program)
             opened += [program] * (program != wants.program)
-            return cls(spawned(wants, program, config, end), leash, wants.said, deadline)
+            return cls(Child(spawned(wants, program, config, end), loop), leash, wants.said, deadline)
         except OSError:
             os.close(leash)
             raise
@@ -96,12 +123,11 @@ class HeldProgram:
     def kill(self) -> None:
         """It hangs."""
         self.hangs = True
-        os.kill(self.pid, signal.SIGKILL)       # (its number is no other's before its status was taken)
+        self._child.kill()
 
     def ended(self) -> int | None:
         """Its status once it has ended, negative for a signal."""
-        pid, status = os.waitpid(self.pid, os.WNOHANG)
-        return os.waitstatus_to_exitcode(status) if pid else None
+        return self._child.ended()
 
     def is_stopped(self) -> bool:
         """Whether a signal has stopped it."""
@@ -119,7 +145,7 @@ class HeldProgram:
 
     def close(self) -> None:
         self._hang_up()
-        for file in (self.file, self.leash, self.said):
+        for file in (self.leash, self.said):
             if file >= 0:
                 os.close(file)
 
@@ -134,17 +160,6 @@ def spawned(wants: ProgramWants, program: int, config: int, end: int) -> int:
     given = *zip((*wants.line, wants.said), range(3)), *zip(passed, passed)
     return os.posix_spawn(f'/proc/self/fd/{program}', words, os.environ, setsid=True, setsigmask=[], setsigdef=[
         signal.SIGPIPE], file_actions=[(os.POSIX_SPAWN_DUP2, file, number) for file, number in given])
-
-
-def watched(pid: int) -> int:
-    """A descriptor of a child that has just begun, which is ready once it has ended. OSError if there is none: then the
-    child is ended, too."""
-    try:
-        return os.pidfd_open(pid)
-    except OSError:
-        os.kill(pid, signal.SIGKILL)
-        os.waitpid(pid, 0)
-        raise
 
 
 def executable(program: int) -> int:

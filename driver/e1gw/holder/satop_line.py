@@ -19,7 +19,7 @@ from .journal import Severity, say
 from .line import HeldLine
 from .loop import Loop
 from .options import LineWants
-from .program import end_words
+from .program import Child, end_words
 
 MULTIFRAME = 512
 ONES = b'\xff' * 2 * MULTIFRAME         # behind which frame alignment is looked for again
@@ -35,7 +35,7 @@ class SatopLine(HeldLine):
 
     def __init__(self, options: LineWants, files: Mapping[str, int], loop: Loop) -> None:
         self._words = list[str]()       # of the process: both ends as addresses, and options
-        self._pid, self._file = 0, -1
+        self._child: Child | None = None
         self._restarts, self._why, self._lacked = Openings(), '', False
         self._ones_due = 0.0            # when the far end is given ones, if it is to be
         self._path = f'{options.folder}/satop'      # of what the process says
@@ -45,13 +45,18 @@ class SatopLine(HeldLine):
     def both(self) -> tuple[int, int]:
         return self.files[self.reads], self.files[self.reads]
 
+    @property
+    def pid(self) -> int:
+        """Of the process; 0 without one."""
+        return self._child.pid if self._child else 0
+
     def kept(self) -> dict[str, int]:
         return {}
 
     @property
     def due(self) -> float:
         dues = [self._ones_due] if self._ones_due else []
-        return min([*dues, self._restarts.due if self.files and not self._pid else super().due])
+        return min([*dues, self._restarts.due if self.files and not self._child else super().due])
 
     # ---- its beginning ----
 
@@ -69,7 +74,7 @@ class SatopLine(HeldLine):
     def is_open(self) -> None:
         super().is_open()
         self._why = ''
-        if not self._pid and self._words:
+        if not self._child and self._words:
             self._start(time.monotonic())
 
     def _start(self, now: float) -> None:
@@ -85,11 +90,10 @@ class SatopLine(HeldLine):
             said = os.memfd_create('e1gw-satop')
         try:
             far = self.files[self.writes]
-            self._pid = os.posix_spawn(
+            self._child = Child(os.posix_spawn(
                 self.options.program, ['e1gw', 'satop', *self._words, '--sequence', str(number)], os.environ,
                 file_actions=[(os.POSIX_SPAWN_DUP2, file, to) for to, file in enumerate((far, far, said))],
-                setsid=True, setsigmask=[], setsigdef=[signal.SIGPIPE])
-            self._watch()
+                setsid=True, setsigmask=[], setsigdef=[signal.SIGPIPE]), self.loop, self._ended)
         except OSError as fault:
             say(Severity.ERROR, f'e1gw satop cannot be started: {fault.strerror}')
             self._restarts = self._restarts.with_end(now)
@@ -107,19 +111,15 @@ class SatopLine(HeldLine):
         before = number_of_now(self._path)
         return before.number if before else int.from_bytes(os.urandom(2))
 
-    def _watch(self) -> None:
-        self._file = os.pidfd_open(self._pid)
-        self.loop.watch(self._file, self._ended)
-
     # ---- while it is there ----
 
     def step(self, now: float) -> None:
         if self._ones_due and now >= self._ones_due:
             self._ones_due = 0.0
             give(self.files[self.reads], ONES)
-        if self._pid and fields_of(self._pid)[:1] == ['T']:
-            self._signal(signal.SIGKILL)
-        elif not self._pid and not self._why and (now >= self._restarts.due or self._lacked and self._can_send()):
+        if self._child and fields_of(self._child.pid)[:1] == ['T']:
+            self._child.kill()
+        elif not self._child and not self._why and (now >= self._restarts.due or self._lacked and self._can_send()):
             self._start_again(now)
 
     def _can_send(self) -> bool:
@@ -134,12 +134,8 @@ class SatopLine(HeldLine):
             give(self.files[self.writes], ONES)
             self._ones_due = now + ANEW
         self._start(now)
-        if self._pid:
+        if self._child:
             self.fault = ''
-
-    def _signal(self, number: int) -> None:
-        with suppress(OSError):
-            signal.pidfd_send_signal(self._file, number)
 
     def _ended(self) -> None:
         """The process has ended. One that has done so by itself ends the line, unless it failed and is tried again."""
@@ -155,13 +151,10 @@ class SatopLine(HeldLine):
         self.step(now)
 
     def _reap(self) -> int | None:
-        pid, status = os.waitpid(self._pid, os.WNOHANG) if self._pid else (0, 0)
-        if not pid:
-            return None
-        self.loop.leave(self._file)
-        os.close(self._file)
-        self._pid, self._file = 0, -1
-        return os.waitstatus_to_exitcode(status)
+        status = self._child.ended() if self._child else None
+        if status is not None:
+            self._child = None
+        return status
 
     # ---- its end ----
 
@@ -172,22 +165,22 @@ class SatopLine(HeldLine):
         if self.files:
             shut(self.files[self.reads])
         until = time.monotonic() + GRACE
-        while self._pid and self._reap() is None:
+        while self._child and self._reap() is None:
             drop(self.files[self.reads])        # (who cannot write does not look for an end)
             if time.monotonic() >= until:
-                self._signal(signal.SIGKILL)
+                self._child.kill()
             time.sleep(SOON)
         self._ones_due = 0.0
         super().close()
 
     def note(self) -> dict[str, Any]:
-        return {**super().note(), 'pid': self._pid, 'words': self._words, 'why': self._why}
+        return {**super().note(), 'pid': self.pid, 'words': self._words, 'why': self._why}
 
     def take_up(self, note: Mapping[str, Any]) -> None:
         super().take_up(note)
-        self._pid, self._words, self._why = note['pid'], note['words'], note['why']
-        if self._pid:
-            self._watch()
+        self._words, self._why = note['words'], note['why']
+        if note['pid']:
+            self._child = Child(note['pid'], self.loop, self._ended)
 
 
 @contextmanager

@@ -42,12 +42,11 @@ def start(holder: Holder, now: float) -> None:
     try:
         holder.program = HeldProgram.started(ProgramWants(
             version.program, config, holder.folder, holder.line.both, holder.sockets.given(version.its.ports), said,
-            ['--senders', version.its.senders, *holder.options.words]),
+            ['--senders', version.its.senders, *holder.options.words]), holder.loop,
             now + (RELOADED if holder.versions.before else START))
     except OSError:
         os.close(said)
         raise
-    holder.loop.watch(holder.program.file, lambda: None)
 
 
 def put_back_log(holder: Holder) -> None:

@@ -11,7 +11,7 @@ from ..holder_state import STARTED_BY
 from .decisions import Openings
 from .journal import Severity, say
 from .loop import Loop
-from .program import end_words
+from .program import Child, end_words
 
 REFUSED = 0, 2              # statuses of one that was to end, or cannot be begun: none follows
 
@@ -20,40 +20,33 @@ class WatcherChild:
     """Such a process, of the command line `words`."""
 
     def __init__(self, words: list[str], loop: Loop) -> None:
-        self._words, self._loop = words, loop
-        self.pid, self._file = 0, -1
-        self._restarts = Openings()
+        self._words, self._loop, self._restarts = words, loop, Openings()
+        self._child: Child | None = None
+
+    @property
+    def pid(self) -> int:
+        return self._child.pid if self._child else 0
 
     def take_up(self, pid: int) -> None:
         """The process that this one was before has started it."""
-        self.pid = pid
-        self._watch()
+        self._child = Child(pid, self._loop, self._ended)
 
     def step(self, now: float) -> None:
         """To be called now and then: starts it, if it is due."""
-        if self.pid or now < self._restarts.due:
+        if self._child or now < self._restarts.due:
             return
         self._restarts = self._restarts.with_one(now)
         try:
-            self.pid = os.posix_spawn(self._words[0], self._words, {**os.environ, STARTED_BY: str(os.getpid())},
-                                      setsigmask=[], setsigdef=[signal.SIGPIPE])
-            self._watch()
+            self.take_up(os.posix_spawn(self._words[0], self._words, {**os.environ, STARTED_BY: str(os.getpid())},
+                                        setsigmask=[], setsigdef=[signal.SIGPIPE]))
         except OSError as fault:
             say(Severity.ERROR, f'e1gw-watch is not started: {words_of_fault(fault, self._words[0])}')
             self._restarts = Openings(due=inf)
 
-    def _watch(self) -> None:
-        self._file = os.pidfd_open(self.pid)
-        self._loop.watch(self._file, self._ended)
-
     def _ended(self) -> None:
-        pid, status = os.waitpid(self.pid, os.WNOHANG)
-        if not pid:
+        if not self._child or (code := self._child.ended()) is None:
             return
-        self._loop.leave(self._file)
-        os.close(self._file)
-        self.pid, self._file = 0, -1
-        code, now = os.waitstatus_to_exitcode(status), time.monotonic()
-        self._restarts = Openings(due=inf) if code in REFUSED else self._restarts.with_end(now)
+        self._child = None
+        self._restarts = Openings(due=inf) if code in REFUSED else self._restarts.with_end(time.monotonic())
         if code not in REFUSED:
             say(Severity.WARNING, f'e1gw-watch {end_words(code, [])}, and is started again')
