@@ -4,11 +4,13 @@ from __future__ import annotations
 import random
 import unittest
 from types import SimpleNamespace
+from unittest import mock
 
-from . import support
+from . import limits, support
 from e1gw.holder.decisions import (DEATHS, FIRST_PAUSE, MOST_DEATHS, MOST_PAUSE, TRIED, WITHIN, Deaths)
 from e1gw.trial import MOST_ENDED, ReloadEffects
-from e1gw.watcher.decisions import QUIET, REFUSED, RELOADED, Flow, FlowChange, IdleReloads, who_goes
+from e1gw.watcher import decisions
+from e1gw.watcher.decisions import Flow, FlowChange, IdleReloads, who_goes
 
 
 class DecisionTests(unittest.TestCase):
@@ -48,16 +50,17 @@ class DecisionTests(unittest.TestCase):
         for states, is_due in ('', False), ('answered seized', False), ('answered idle', True):
             self.assertEqual(fresh.is_due(0.0, states.split()), is_due)
         self.assertFalse(fresh.asked().is_due(1e9, ['idle']))
-        for is_done, seconds in ((True, RELOADED), (False, REFUSED)):
+        for is_done, seconds in ((True, 2.0), (False, 60.0)):
             after = fresh.asked().answered(10.0, is_done)
             self.assertEqual([after.is_due(10.0 + each, ['idle']) for each in (seconds - 0.1, seconds)], [False, True])
 
+    @mock.patch.object(decisions, 'QUIET', limits.USUAL['watcher.decisions.QUIET'])
     def test_a_stall(self) -> None:
         """It is found after a second, once; what nobody reports is not missed; octets end it."""
-        flow, change = Flow(0, 10.0).seen(0, 10.0 + QUIET - 0.01, True)
+        flow, change = Flow(0, 10.0).seen(0, 10.99, True)
         self.assertIsNone(change)
         self.assertEqual(flow.seen(0, 99.0, False), (flow, None))
-        stalled, change = flow.seen(0, 10.0 + QUIET, True)
+        stalled, change = flow.seen(0, 11.0, True)
         self.assertEqual((stalled, change), (Flow(0, 10.0, 10.0, 1), FlowChange.STALLED))
         self.assertEqual(stalled.seen(0, 50.0, True), (stalled, None))
         self.assertEqual(stalled.seen(7, 51.0, False), (Flow(7, 51.0, None, 1), FlowChange.FLOWS))
