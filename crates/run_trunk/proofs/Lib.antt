@@ -1,3 +1,2 @@
 mod Written
 mod Carried
-mod Filtered

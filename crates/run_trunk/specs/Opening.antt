@@ -3,7 +3,7 @@ use Rattle.std.specs.Prelude.{◌≡◌, []}
 use Rattle.run_trunk.specs.declared.opening.Incoming.{Incoming}
 use Rattle.run_trunk.specs.declared.opening.Incoming.TheVariants.{Alone, Clients}
 use Rattle.run_trunk.specs.declared.opening.OpenTrunk.{OpenTrunk}
-use Rattle.run_trunk.specs.Filters.{AreFresh}
+use Rattle.trunk_filters.specs.Trunk.{AreFresh}
 
 -- nothing came of the trunk, no client asked, and none was answered
 abbrev pub IsFreshEnd : Incoming → Type 0

@@ -1,13 +1,9 @@
 //! How a trunk that is open is served, through its filters (`serve`).
 
 ghost use Rattle.std.specs.Prelude.{◌≡◌, []};
-ghost use Rattle.run_trunk.specs.Filters.{AreFresh};
+ghost use Rattle.trunk_filters.specs.Trunk.{AreFresh};
 ghost use Rattle.run_trunk.specs.Opening.{IsFreshTrunk};
 
-use crate::filters::{
-    TrunkFilters, checker_from, filtered_input, finish_input, finish_output, framed_output, parted,
-    slot_input,
-};
 use crate::opening::{Incoming, OpenTrunk};
 use crate::serving::serve_trunk;
 use e1_g711::Law;
@@ -21,6 +17,10 @@ use gw_trunk::{
 };
 use std::alloc::Global;
 use std::rt::{Stderr, Stdout};
+use trunk_filters::{
+    TrunkFilters, checker_from, filtered_input, finish_input, finish_output, framed_output, parted,
+    slot_input,
+};
 
 /// How a trunk ended.
 #[derive(Drop)]

@@ -2,9 +2,7 @@
 #![tactic(auto)]
 
 mod carrying;
-mod filters;
 mod opening;
-mod reports;
 mod serving;
 
 pub use carrying::{TrunkEnd, serve};

@@ -3,7 +3,6 @@
 ghost use Rattle.std.specs.Prelude.{◌≡◌, [], IfOk};
 ghost use Rattle.run_trunk.specs.Opening.{IsFreshEnd, IsFreshTrunk};
 
-use crate::filters::{TrunkFilters, filters_as_asked};
 use gw_command::{ControlOptions, TrunkOptions};
 use gw_report::ProgramFault;
 use gw_trunk::{FromDevice, ToDevice, WithClients, open_clients};
@@ -13,6 +12,7 @@ use std::fs;
 use std::net::Net;
 use std::os::unix::fs::FileTypeExt;
 use std::rt::{Files, Stderr, Stdin, Stdout};
+use trunk_filters::{TrunkFilters, filters_as_asked};
 
 // The descriptors of standard input and output.
 const STDIN: i32 = 0;

@@ -1,4 +1,0 @@
-pub mod Frames
-pub mod Receives
-pub mod Drops
-pub mod Inputs

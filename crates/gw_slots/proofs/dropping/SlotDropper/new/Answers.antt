@@ -1,7 +1,0 @@
-use Rattle.std.proofs.Common.{rules}
-use Rattle.gw_slots.proofs.Drops.{nothing-framed}
-use Rattle.gw_slots.proofs.dropping.SlotDropper.new.Goals as goal
-use Rattle.gw_slots.proofs.dropping.SlotDropper.new.Goals.{then-is_on, else-is_on}
-
-pub returns-clause-begins : goal.returns-clause-begins
-returns-clause-begins c = search (rules, then-is_on, nothing-framed, else-is_on)

@@ -1,7 +1,0 @@
-use Rattle.std.proofs.Common.{◌∙◌, refl, arith}
-use Rattle.gw_slots.proofs.Receives.{made-none}
-use Rattle.gw_slots.proofs.receiving.SlotReceiver.new.Goals as goal
-
-pub returns : goal.returns
-returns c = made-none _ c.args.law c.args.place _ c.new.ensures.stands (omega (arith, c.saturating_sub.ensures))
-    (c.new.ensures.idle ∙ c.idle.ensures) refl
