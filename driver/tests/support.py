@@ -152,9 +152,14 @@ def program() -> str:
     return path
 
 
+def seed() -> str:
+    """That of scripts/drivers."""
+    return os.environ.get('E1GW_SEED', '1')
+
+
 def chance_of(test: unittest.TestCase) -> random.Random:
-    """By what a test chooses: its name and the seed of scripts/drivers."""
-    return random.Random(f'{test.id()} {os.environ.get("E1GW_SEED", "1")}')
+    """By what a test chooses: its name and the seed."""
+    return random.Random(f'{test.id()} {seed()}')
 
 
 def connected(path: str) -> socket.socket:

@@ -23,7 +23,7 @@ from e1gw_common.session_files import by_time, kept, note_of, octets_of
 
 HELD = 12                   # multiframes that a device holds which nobody reads
 NAMELESS = 35               # a signal of real time: it could not be told, and no program followed
-MORE = 5                    # events by chance behind all of them
+MORE, PAIRS = 5, 12         # events by chance behind all of them; pairs of them
 SIGNALS = NAMELESS, signal.SIGKILL, signal.SIGSTOP, signal.SIGTERM, signal.SIGSEGV
 
 
@@ -336,6 +336,27 @@ class RingSequenceTests(SequenceCase):
                                         given=b''.join(octets_of(f'{front}.e1gw'))))
             self.assertEqual(its, octets[begin:end], begin)
         self.assertGreater(len(fronts), len(SIGNALS))
+
+
+class SequencePairTests(SequenceCase):
+    """Each two of them, the second one at once behind the first: some by chance, and with the seed 0 all. All that was
+    sent has its answer, so nothing is silent; and no call ends, also as the watcher tells it."""
+
+    def test_pairs(self) -> None:
+        acts = [*dict.fromkeys(act for act in self.happens() if act != self.trunk_ends)]
+        pairs = [*itertools.product(acts, acts)]
+        self.chance.shuffle(pairs)
+        self.begins_all()
+        for first, second in pairs[:None if support.seed() == '0' else PAIRS]:
+            with self.subTest(first=first.__name__, second=second.__name__):
+                first()
+                second()
+                self.step(20)
+                self.assertEqual(self.device.exchange.signals, self.up())
+        self.all_known()
+        self.as_uncut()
+        self.assertEqual((self.states()[self.changes:], self.called()), ([], []))
+        self.ends()
 
 
 def parted(octets: bytes) -> tuple[bytes, list[tuple[int, bytes]]]:
