@@ -17,9 +17,10 @@ from e1gw_common.writers import put_file
 from .priority import run_last
 
 UNITS = {'s': 1, 'm': 60, 'h': 3600, 'd': 86400}
-FILES = 12                  # the number of files into which the time that is kept is cut
-MOST_EARLIER = 3 * FILES    # files of earlier sessions
-MOST_OWN = 4 * FILES        # of this one, whose programs may follow one another soon
+FEWEST, MOST = 12, 120      # files into which the time that is kept is cut
+SHORT = 30.0                # seconds of a file, unless there are so few or so many
+MOST_EARLIER = 3 * MOST     # files of earlier sessions
+MOST_OWN = 4 * MOST         # of this one, whose programs may follow one another soon
 MOST_SLIPS = 1000           # that are noted for a file
 RECORDS, STATE = '.e1gw', '.state'
 
@@ -30,6 +31,12 @@ def seconds_of(text: str) -> int:
     if unit not in UNITS or not (number.isascii() and number.isdecimal()) or int(number) * UNITS[unit] < 60:
         raise ValueError(f'{text} is no time such as 30m, 1h or 2d, of a minute or more')
     return int(number) * UNITS[unit]
+
+
+def seconds_of_file(keep: int) -> float:
+    """How long each file of a ring is that keeps so many seconds: who looks at the last ones replays what is before
+    them in their file."""
+    return min(keep / FEWEST, max(SHORT, keep / MOST))
 
 
 class Ring:

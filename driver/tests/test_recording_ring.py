@@ -13,7 +13,7 @@ from unittest import mock
 
 from . import support
 from .properties import PropertyCase
-from e1gw.recording_ring import MOST_SLIPS, Ring, seconds_of
+from e1gw.recording_ring import MOST_SLIPS, Ring, seconds_of, seconds_of_file
 from e1gw_common.session import OCTETS_A_SECOND
 from e1gw_common.session_files import kept, note_of
 
@@ -28,6 +28,12 @@ class KeptTimeTests(unittest.TestCase):
         for text in ('', '59s', '0h', '1', 's', '1x', '-1h', '1.5h', '\u0663h', '1hh', '1 h'):
             with self.subTest(text), self.assertRaises(ValueError):
                 seconds_of(text)
+
+
+    def test_files(self) -> None:
+        """Of 30 s, from six minutes to an hour: twelve at least and 120 at most."""
+        self.assertEqual([seconds_of_file(seconds_of(text)) for text in ('1m', '5m', '6m', '1h', '2h', '1d')],
+                         [5.0, 25.0, 30.0, 30.0, 60.0, 720.0])
 
 
 class RingTests(support.FolderCase, PropertyCase):

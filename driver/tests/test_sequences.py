@@ -315,7 +315,7 @@ class RingSequenceTests(SequenceCase):
     states."""
 
     keeps = '--keep', '1h'
-    limits = {'watcher.recordings.FILES': 3600}
+    limits = {'recording_ring.FEWEST': 3600}
     part = 1
 
     def happens(self) -> list[Callable[[], None]]:

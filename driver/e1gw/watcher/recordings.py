@@ -21,7 +21,7 @@ from e1gw_common.lines import WAIT
 from e1gw_common.session import OCTETS_A_SECOND
 from e1gw_common.writers import open_to_append, write_all
 from ..priority import put_behind
-from ..recording_ring import FILES, RECORDS, Ring
+from ..recording_ring import RECORDS, Ring, seconds_of_file
 
 MOST_BEHIND = 16 << 20      # octets that may wait to be written: half a minute of thirty calls
 EVERY = 0.1                 # seconds between two looks of the thread
@@ -46,7 +46,7 @@ class RecordingWants:
 
     def is_long(self, octets: int) -> bool:
         """Whether a file is one of a ring, and has the octets of the trunk behind which the next one begins."""
-        return self.keep is not None and octets >= self.keep * OCTETS_A_SECOND // FILES
+        return self.keep is not None and octets >= seconds_of_file(self.keep) * OCTETS_A_SECOND
 
 
 @dataclass(frozen=True)
