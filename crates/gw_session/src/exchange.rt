@@ -277,7 +277,9 @@ impl SessionBuffers {
     /// Gives octets to the gateway, each after the datagrams that wait at the circuit whose slot is sent with
     /// it, and puts the octets to send behind those of the answer. The ports look for datagrams before the
     /// first octet. All are recorded when it returns, mostly in one write: the octets are cut where datagrams
-    /// came. The packets of up to 2,048 octets are sent behind that, if this session holds packets.
+    /// came. The packets of up to 2,048 octets are sent behind that, if this session holds packets. (It is
+    /// apart from the loop over records, so that what an octet needs is in registers.)
+    #[inline(never)]
     pub fn exchange_all<O: PacketPorts<A>, A: Answers, T: Tape, W: Watch>(
         &mut self,
         gateway: &mut Gateway,
