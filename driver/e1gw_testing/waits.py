@@ -6,7 +6,7 @@ import inspect
 import time
 from typing import Callable, TypeVar
 
-SECONDS = 180.0             # of a wait, at most: on a loaded machine some take a minute
+SECONDS = 60.0              # of a wait, at most
 
 T = TypeVar('T')
 
