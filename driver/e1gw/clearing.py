@@ -5,6 +5,7 @@ from dataclasses import dataclass
 from math import inf
 from typing import Callable
 
+from e1gw_common.answers import DONE, CommandAnswer, refused
 
 LOOKS = 0.5                 # seconds between two looks from which on this process stood still, and no client
 
@@ -49,18 +50,18 @@ class DisconnectWatch:
         self._blocks = False
         self._looked = inf
 
-    def asked(self, client: object, words: list[str], now: float) -> str:
+    def asked(self, client: object, words: list[str], now: float) -> CommandAnswer:
         """A client asks with these words, or, without any, for what is usual on this trunk."""
         try:
             wish = on_loss_of(words) if words else self._usual
         except ValueError:
-            return 'on-loss: wants keep, or clear or block and seconds'
+            return refused('it wants keep, or clear or block and seconds')
         if wish.seconds is None:
             self._asked.pop(client, None)
         else:
             self._asked[client] = DisconnectClient(wish, now)
         self._due = None
-        return 'on-loss: done'
+        return DONE
 
     def holds(self, client: object) -> bool:
         """Whether something is to be done when it is gone."""

@@ -31,6 +31,7 @@ import time
 from pathlib import Path
 from typing import BinaryIO
 
+from e1gw_common.answers import answer_in
 from e1gw_common.faults import Parser, checked, number, words_of_fault
 from e1gw_common.session import CIRCUITS, circuit_of
 from e1gw_common.session_clock import local_second
@@ -92,9 +93,8 @@ def ask(stream: BinaryIO, line: socket.socket, command: str, patience: float, fr
     """Gives a command and prints what answers it; returns whether it was done."""
     lines, word = answer_to(line, stream, command, patience), command.split()[0]
     print('\n'.join(f'{front}{each}' for each in lines), flush=True)
-    if word in ASKING and not lines[0].endswith(('help', 'to 30')):
-        return True
-    return lines[-1].endswith(': done')
+    answer = answer_in(lines)
+    return answer.is_done if answer else word in ASKING
 
 
 def follow(stream: BinaryIO) -> None:

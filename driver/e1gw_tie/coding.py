@@ -9,8 +9,8 @@ from dataclasses import dataclass
 from typing import Any, Callable, Iterable, NamedTuple
 
 from e1gw_common.lines import State
-from .events import CodecGiven, Tell, Warned
-from .trunk import TrunkLink
+from e1gw_tie.events import CodecGiven, Tell, Warned
+from e1gw_tie.trunk import TrunkLink
 
 
 class Coding(NamedTuple):
@@ -101,8 +101,8 @@ class CodecChanges:
         circuit.is_changing = False
         if answer is None:
             return
-        self._tell(CodecGiven(n, coding.codec, coding.payload, answer))
-        circuit.present, circuit.refused = (coding, None) if answer == 'done' else (circuit.present, coding)
+        self._tell(CodecGiven(n, coding.codec, coding.payload, answer.short))
+        circuit.present, circuit.refused = (coding, None) if answer.is_done else (circuit.present, coding)
         self._look(n)
 
     async def leave(self, idle: Iterable[int]) -> None:

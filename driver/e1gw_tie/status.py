@@ -7,17 +7,19 @@ from collections import Counter
 from contextlib import suppress
 from typing import Any
 
+from e1gw_common.answers import refused
 from e1gw_common.lines import IN_CALL
 from e1gw_common.prometheus import Family, text_of
 from e1gw_common.unix_listener import unix_listener
 from e1gw_common.web import StatusTexts, WebServer
-from .circuit import LinkState
-from .tie import Tie
+from e1gw_tie.circuit import LinkState
+from e1gw_tie.tie import Tie
 
 SECONDS = 60.0              # for one who asks at the socket
 MODE = 0o660                # of the socket
 MOST_LINE = 4096            # octets of a line, and of a request
 HEAD = 'here there role     state       there is    remark'
+NO_COMMAND = refused('there are status, status json and metrics')
 REMARKS = {'over': 'given up', 'kept': 'blocked by the operator', 'stuck': 'release not followed'}
 
 
@@ -86,8 +88,8 @@ async def serve_status(tie: Tie, path: str | None, http: tuple[str, int] | None)
                     now = texts_of(tie)
                     texts = {'status': now.table, 'status json': now.json, 'metrics': now.metrics}
                     words = ' '.join(line.decode(errors='replace').split())
-                    answer = texts.get(words, 'there are status, status json and metrics').rstrip('\n')
-                    writer.write(f'{answer}\n\n'.encode())
+                    answer = texts.get(words) or NO_COMMAND.lines(words[:40])
+                    writer.write(f'{answer.rstrip()}\n\n'.encode())
                     await writer.drain()
         writer.close()
     if path:

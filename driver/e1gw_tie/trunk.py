@@ -6,13 +6,14 @@ import json
 from collections import deque
 from typing import TYPE_CHECKING, Any
 
+from e1gw_common.answers import CommandAnswer, answer_in, refused
 from e1gw_common.faults import words_of_fault
 from e1gw_common.lines import UNKNOWN
 from e1gw_common.tasks import Tasks
-from .events import TrunkGone, Warned
+from e1gw_tie.events import TrunkGone, Warned
 
 if TYPE_CHECKING:
-    from .tie import Tie
+    from e1gw_tie.tie import Tie
 
 LOOK = 0.5                  # seconds between two looks at the trunk
 SOON = 0.1                  # seconds until a connection is retried
@@ -59,9 +60,10 @@ class TrunkLink:
     async def _look(self) -> None:
         """Looks at the trunk again and again, which ends calls and blocks circuits if this program dies."""
         await self.ask('events')
-        answer = await self.ask(f'on-loss block {self._hold:g} alive {ALIVE:g}')
-        if not answer.endswith('done'):
-            self._tell(Warned('the trunk clears no calls if this program dies', answer=answer))
+        said = await self.ask(f'on-loss block {self._hold:g} alive {ALIVE:g}')
+        answer = answer_in([said])
+        if not (answer and answer.is_done):
+            self._tell(Warned('the trunk clears no calls if this program dies', answer=said))
         while True:
             status = json.loads(await self.ask('status json'))
             if self.is_up:
@@ -110,12 +112,13 @@ class TrunkLink:
                 self._writer.close()
             raise EOFError('the trunk does not answer') from None
 
-    async def answer(self, command: str) -> str | None:
-        """What answers a command, without its first words; None without an answer in time."""
+    async def answer(self, command: str) -> CommandAnswer | None:
+        """What answers a command; None without an answer in time."""
         try:
-            return (await self.ask(command)).rpartition(': ')[2]
+            said = await self.ask(command)
         except (OSError, EOFError):
             return None
+        return answer_in([said]) or refused(said)
 
 
 def is_known(status: dict[str, Any]) -> bool:

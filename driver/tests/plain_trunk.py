@@ -5,6 +5,7 @@ from contextlib import AbstractContextManager, nullcontext
 from types import SimpleNamespace
 from typing import Any, cast
 
+from e1gw_common.answers import DONE, CommandAnswer
 from e1gw.watcher.blocks import KeptBlocks
 from e1gw.watcher.reader import LogReader
 from e1gw.watcher.replay import ReplayVersion
@@ -52,11 +53,14 @@ class PlainTrunk(WatchedTrunk):
     def begun(self) -> int:
         return self.first
 
-    async def ends(self) -> str:
-        return ''
+    async def ends(self) -> CommandAnswer:
+        return DONE
 
-    async def reload(self, *how: str) -> str:
-        return ''
+    async def reload(self, *how: str) -> CommandAnswer:
+        return DONE
 
-    async def role(self, word: str) -> str:
-        return ''
+    async def change_role(self, word: str) -> CommandAnswer:
+        return DONE
+
+    def role(self) -> str | None:
+        return None

@@ -20,10 +20,11 @@ from .test_trunk import aligned, call
 from .world import World, config_of
 from e1gw.ctl_all import TrunkLine
 from e1gw_tools.far_exchange import IDLE, SEIZED
+from e1gw_common.answers import DONE, AnswerWord, CommandAnswer, refused
 from e1gw_common.lines import IN_CALL, Line, Role, State
 from e1gw.metrics import exposition
 from e1gw.watcher.blocks import BY_OPERATOR, BlockWatch, BlockedCircuits, KeptBlocks
-from e1gw_common.session import Command
+from e1gw_common.session import Command, CommandRefusal
 
 ROLES = {1: Role.OUTGOING, 2: Role.INCOMING, 3: Role.INCOMING}
 # ITU-T Q.421: what a command of this end does to an outgoing and an incoming line, and what the exchange does next.
@@ -35,7 +36,7 @@ THEIRS = {Role.OUTGOING: {State.SEIZED: State.ACKED, State.ACKED: State.ANSWERED
           Role.INCOMING: {State.IDLE: State.ACKED, State.ACKED: State.IDLE, State.ANSWERED: State.IDLE,
                           State.CLEAREDBACK: State.IDLE}}
 CLIENTS = {State.IDLE: Command.SEIZE, State.ACKED: Command.ANSWER, State.ANSWERED: Command.CLEAR}
-LOST = 'no answer, the connection to the program is lost'
+LOST = CommandAnswer(AnswerWord.UNKNOWN, 'no answer, the connection to the program is lost')
 
 
 class KeptInMemory(KeptBlocks):
@@ -55,7 +56,7 @@ class Trunk:
 
     def __init__(self, test: unittest.TestCase) -> None:
         self.test, self.states, self.life, self.needless = test, dict.fromkeys(ROLES, State.IDLE), 0, False
-        self.taken, self.asked = set[int](), deque[tuple[int, Command, asyncio.Future[str]]]()
+        self.taken, self.asked = set[int](), deque[tuple[int, Command, asyncio.Future[CommandAnswer]]]()
         self.reports, self.gave = deque[Callable[[], None]](), list[Command]()
         self.begin(KeptInMemory())
 
@@ -70,7 +71,7 @@ class Trunk:
         self.life += 1
         self.watch = BlockWatch(disk, cast(Any, self.view), partial(self.give, self.life), lambda event: None)
 
-    async def give(self, life: int, n: int, command: Command) -> str:
+    async def give(self, life: int, n: int, command: Command) -> CommandAnswer:
         """As the service gives a command, its own or that of a client. (One that has died gives none.)"""
         if life != self.life:
             return LOST
@@ -78,8 +79,9 @@ class Trunk:
         self.needless |= command is Command.BLOCK and (is_asked or not self.view.live)
         self.gave.append(command)
         with self.watch.under_way(n):
-            self.asked.append((n, command, its := asyncio.get_running_loop().create_future()))
-            return str(await its)
+            its: asyncio.Future[CommandAnswer] = asyncio.get_running_loop().create_future()
+            self.asked.append((n, command, its))
+            return await its
 
     def moves(self, n: int, state: State) -> None:
         """A line changes, which is told later."""
@@ -91,7 +93,8 @@ class Trunk:
         n, command, its = self.asked.popleft()
         if state := OURS.get((command, self.states[n])):
             self.moves(n, state)
-        answer = 'done' if state else 'not blocked' if command is Command.UNBLOCK else 'not idle'
+        why = CommandRefusal.NOT_BLOCKED if command is Command.UNBLOCK else CommandRefusal.NOT_IDLE
+        answer = DONE if state else refused(why.words)._replace(refusal=why)
         self.reports.append(lambda: its.set_result(answer))
 
     async def told(self) -> None:
@@ -125,7 +128,7 @@ class Trunk:
         if dies:
             await self.dies(n)
         await self.settles(asks)
-        if asks.result()[-1] in ('done', 'not blocked'):
+        if asks.result() in (DONE, refused('not blocked')):
             self.taken.discard(n)
 
     async def back_lost(self, n: int) -> None:
@@ -253,8 +256,8 @@ class BlockedTrunkTests(unittest.TestCase):
         call(world, 1)
         self.assertEqual(world.ask('block 1-4').splitlines(), [
             'block 1-4: blocking, until their calls have ended: circuits 1-2', 'block 1-4: done'])
-        self.assertEqual(world.ask('seize 3'), f'seize 3: {BY_OPERATOR}')
-        self.assertEqual(world.ask('unblock 4 auto'), f'unblock 4: {BY_OPERATOR}')
+        self.assertEqual(world.ask('seize 3'), f'seize 3: refused: {BY_OPERATOR}')
+        self.assertEqual(world.ask('unblock 4 auto'), f'unblock 4: refused: {BY_OPERATOR}')
         os.kill(world.watcher(), signal.SIGKILL)        # (e1gw-trunk starts another one)
         world.connected()
         support.until(lambda: [(row['state'], row['blocked']) for row in world.told()['circuits'][:5]] == [
@@ -271,12 +274,12 @@ class BlockedTrunkTests(unittest.TestCase):
         world.exchange.pairs[2] = IDLE
         world.until(lambda: world.state(2) == 'blocked')
         self.assertEqual(world.ask('block 1 now'), 'block 1: done')
-        self.assertEqual(world.ask('block 1-31'), 'block 1-31: circuits are 1 to 30')
+        self.assertEqual(world.ask('block 1-31'), 'block 1-31: refused: circuits are 1 to 30')
         self.assertEqual(world.ask('unblock 1-4'), 'unblock 1-4: done')
         told = ((event.get('what', event['why'] if 'why' in event else ''), event['circuits'])
                 for event in map(json.loads, events) if event['event'] in ('block', 'cleared'))
         self.assertEqual([next(told) for _ in range(4)], [
             ('blocked', [2]), ('the operator blocks them', [1]), ('blocked', [1]), ('unblocked', [1, 2, 3, 4])])
-        self.assertEqual(world.ask('unblock 1-4'), 'unblock 1-4: not blocked')
+        self.assertEqual(world.ask('unblock 1-4'), 'unblock 1-4: refused: not blocked')
         world.until(lambda: {row['state'] for row in world.told()['circuits'][:4]} == {'idle'})
         self.assertEqual({row['blocked'] for row in world.told()['circuits']}, {None})

@@ -131,7 +131,7 @@ class ClearingPropertyTests(PropertyCase):
             for what, how, words in [*chosen, *ends, (32, LOOK, '')]:
                 if what == 'asks':
                     clients.asks(how, words.split(), now)
-                    self.assertEqual(watch.asked(how, words.split(), now), 'on-loss: done')
+                    self.assertTrue(watch.asked(how, words.split(), now).is_done)
                 elif what in ('says', 'leaves'):
                     getattr(clients, what)(how, now)
                     {'says': watch.said, 'leaves': watch.left}[what](how, now)

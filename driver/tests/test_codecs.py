@@ -54,7 +54,8 @@ class CodecOfACallTests(unittest.TestCase):
             self.assertEqual(world.ask(f'codec {n} g726-32 96'), f'codec {n}: done')
         self.assertRegex(world.ask('status'),
                          r'\ncodec by command, until the call ends \(\*\): 1-2\n(.*\n)+.* g726-32\*')
-        self.assertEqual(world.ask('codec 1 pcma 8 x'), 'codec: wants a circuit, a codec and a payload type')
+        self.assertEqual(world.ask('codec 1 pcma 8 x'),
+                         'codec: refused: it wants a circuit, a codec and a payload type')
         os.kill(world.watcher(), signal.SIGKILL)        # (e1gw-trunk starts another one)
         world.connected()
         world.kill('trunk')

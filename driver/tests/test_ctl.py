@@ -102,8 +102,10 @@ class CtlAnswerCase(support.FolderCase):
     def trunk(self, name: str) -> StandInTrunk:
         os.mkdir(self.path(f'run/{name}'))
         trunk = StandInTrunk(self.path(f'run/{name}/control'), {
-            'seize 1': 'seize 1: done\n\n', 'seize 2': 'seize 2: not idle\n\n', 'status': f'trunk {name}\nrows\n\n',
-            'status 40': 'status 40: circuits are 1 to 30\n\n', 'status x': 'x: help\n\n',
+            'seize 1': 'seize 1: done\n\n', 'seize 2': 'seize 2: refused: not idle\n\n',
+            'status': f'trunk {name}\nrows\n\n',
+            'status 40': 'status 40: refused: circuits are 1 to 30\n\n', 'help': 'seize 3: refused: x\nhelp\n\n',
+            'clear 3': 'clear 3: unknown: no answer: done\n\n',
             'reload': 'a\nreload: done\n\n', 'reload force': 'reload: d', 'reload when-idle': 'reload: done\n\n',
             'unblock 3': 'unblock 3: done\n\n',
             'events': 'events: done\n\n{"event": 1}\n{"event": 2}\n'})
@@ -124,9 +126,11 @@ class CtlAnswerTests(CtlAnswerCase):
         """0 where all was done, 1 where something was refused or not answered; questions are done once answered. Half
         an answer is one."""
         for words, status, told in (
-                ('seize 1', 0, ['seize 1: done']), ('seize 2', 1, ['seize 2: not idle']),
-                ('seize 1-2', 1, ['seize 1: done', 'seize 2: not idle']), ('status', 0, ['trunk west', 'rows']),
-                ('status 40', 1, ['status 40: circuits are 1 to 30']), ('status x', 1, ['x: help']),
+                ('seize 1', 0, ['seize 1: done']), ('seize 2', 1, ['seize 2: refused: not idle']),
+                ('seize 1-2', 1, ['seize 1: done', 'seize 2: refused: not idle']),
+                ('status', 0, ['trunk west', 'rows']),
+                ('status 40', 1, ['status 40: refused: circuits are 1 to 30']),
+                ('help', 0, ['seize 3: refused: x', 'help']), ('clear 3', 1, ['clear 3: unknown: no answer: done']),
                 ('reload', 0, ['a', 'reload: done']), ('reload --when-idle', 0, ['reload: done']),
                 ('reload force', 1, ['reload: d']),
                 ('events', 0, ['{"event": 1}', '{"event": 2}']), ('unblock 3', 0, ['unblock 3: done'])):
@@ -134,7 +138,7 @@ class CtlAnswerTests(CtlAnswerCase):
                 self.assertEqual(self.ctl('west', *words.split()), (status, told, ''))
                 self.assertEqual(self.ctl(self.path('run/west/control'), *words.split())[:2], (status, told))
         self.assertEqual(self.ctl('west', given='seize 1\n\n  seize 2 \nstatus\n'),
-                         (1, ['seize 1: done', 'seize 2: not idle', 'trunk west', 'rows'], ''))
+                         (1, ['seize 1: done', 'seize 2: refused: not idle', 'trunk west', 'rows'], ''))
         self.assertEqual(self.ctl('west', 'none'), (1, [], 'e1gw-ctl: the trunk has ended\n'))
 
     def test_a_trunk_that_is_not_in_service(self) -> None:

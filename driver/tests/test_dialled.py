@@ -96,7 +96,7 @@ class LineSignalTests(unittest.TestCase):
         self.asked('clear 20', 'ended')
         self.assertTrue(self.world.has_state(20, 'idle'))
         self.ordered('block 21', state='blocked')
-        self.asked('seize 21', answer='not idle')
+        self.asked('seize 21', answer='refused: not idle')
         self.ordered('unblock 21', state='idle')
         self.asked('block 7', 'blocked')
         self.ordered('call 7 1 2', 'refused')

@@ -103,7 +103,7 @@ class PlayedTrunk:
 
     async def ask(self, command: str) -> list[str]:
         self.asked.append(command)
-        return [f'{command}: {"not idle" if command in self.refused else "done"}']
+        return [f'{command}: {"refused: not idle" if command in self.refused else "done"}']
 
     def sendto(self, octets: bytes, _to: tuple[str, int]) -> None:
         if octets[:1].isalpha():

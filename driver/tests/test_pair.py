@@ -9,8 +9,9 @@ from typing import Any
 from unittest import mock
 
 from . import support
-from e1gw.holder_state import ACTIVE, STANDBY, TrunkPlaces, start_of
-from e1gw.watcher import pair
+from e1gw_common.answers import DONE, AnswerWord, CommandAnswer, refused
+from e1gw.holder_state import ACTIVE, STANDBY, TrunkPlaces
+from e1gw.watcher import door, pair
 from e1gw.watcher.pair import NOT_TAKEN, REVERSE, TrunkPair
 
 
@@ -28,7 +29,7 @@ class PairTests(support.LoopCase):
         self.feed.age.return_value = self.standby.age.return_value = 0.5
         self.asked, self.runs, self.holds = list[str](), list[str](), asyncio.Event()
         self.holds.set()
-        self.enterContext(mock.patch.object(pair, 'heard', self.heard))
+        self.enterContext(mock.patch.object(door, 'heard', self.heard))
         self.its = TrunkPair(self.trunk, self.standby, self.feed)
         self.addCleanup(self.its.close)
 
@@ -59,7 +60,7 @@ class PairTests(support.LoopCase):
             self.its.look()
             await asyncio.sleep(0)
             self.standby.fill.side_effect = lambda: self.runs.append('fills')
-            self.assertEqual(await self.its.asked('promote'), 'promote: done')
+            self.assertEqual(await self.its.change('promote'), DONE)
             self.assertEqual((self.asked, self.runs), ([words], ['begins', 'ends', 'fills']))
             self.trunk.reader.begins_anew.assert_called_with((3, 9))
             self.standby.knows.assert_called_with(None)
@@ -67,13 +68,13 @@ class PairTests(support.LoopCase):
     async def test_asked_twice_and_the_reverse(self) -> None:
         """The same is done once; the reverse ends it."""
         self.holds.clear()
-        both = [asyncio.create_task(self.its.asked('promote')) for _ in range(2)]
+        both = [asyncio.create_task(self.its.change('promote')) for _ in range(2)]
         await self.until(lambda: self.asked)
-        demotes = asyncio.create_task(self.its.asked('demote'))
+        demotes = asyncio.create_task(self.its.change('demote'))
         await self.until(lambda: len(self.asked) == 2)
-        self.assertEqual([await each for each in both], [f'promote: {REVERSE}'] * 2)
+        self.assertEqual([await each for each in both], [refused(REVERSE)] * 2)
         self.holds.set()
-        self.assertEqual((await demotes, self.asked), ('demote: done', ['take', 'release']))
+        self.assertEqual((await demotes, self.asked), (DONE, ['take', 'release']))
         self.feed.finish.assert_awaited_once()
         self.assertTrue(self.trunk.reader.rests)
 
@@ -88,7 +89,7 @@ class PairTests(support.LoopCase):
         self.assertEqual((self.runs, self.asked), (['begins', 'ends'], []))
         self.trunk.reader.begins_anew.assert_called_once_with((3, 9))
         self.standby.knows.assert_called_once_with(None)
-        self.assertEqual(await self.its.asked('role'), 'active, fed')
+        self.assertEqual(self.its.role(), 'active, fed')
 
     async def test_while_its_program_ends(self) -> None:
         """Somebody has had the holder release it: it is active until then, and knows what it had once that is whole."""
@@ -96,13 +97,13 @@ class PairTests(support.LoopCase):
         self.its.look()
         await asyncio.sleep(0)
         self.assertEqual((self.runs, self.its.facts()['role']), ([], 'active'))
-        self.assertEqual(await self.its.asked('promote'), 'promote: done')
+        self.assertEqual(await self.its.change('promote'), DONE)
         self.standby.fill.assert_not_awaited()
         self.trunk.reader.begins_anew.assert_not_called()
 
     async def test_moved(self) -> None:
         """The feed says so meanwhile; what nobody takes comes back, with what this machine had."""
-        for is_carried, answer in (True, 'done'), (False, f'refused: {NOT_TAKEN}'):
+        for is_carried, answer in (True, DONE), (False, refused(NOT_TAKEN)):
             self.state.role, self.state.program, self.asked[:] = ACTIVE, os.getpid(), []
             self.feed.is_carried = False
             self.its.look()
@@ -114,21 +115,22 @@ class PairTests(support.LoopCase):
             self.feed.finish = finish
             with mock.patch.object(self.its, '_own') as own:
                 self.trunk.reader.last.return_value = mock.Mock()
-                self.assertEqual(await self.its.asked('move'), f'move: {answer}')
+                self.assertEqual(await self.its.change('move'), answer)
                 self.assertEqual((said, self.feed.hands_over), ([True], False))
                 self.standby.knows.assert_any_call(own.return_value)
             self.assertEqual(self.asked, ['release'] if is_carried else ['release', 'take'])
 
     async def test_what_is_refused(self) -> None:
         """A move without a standby that answers, and what no holder hears."""
-        self.assertEqual(await self.its.asked('move'), 'move: refused: no standby is fed here')
+        self.assertEqual(await self.its.change('move'), refused('no standby is fed here'))
         self.state.role, self.state.program = ACTIVE, 0
-        self.assertEqual(await self.its.asked('role'), 'active, fed, no program')
+        self.assertEqual(self.its.role(), 'active, fed, no program')
         self.state.program = os.getpid()
         self.feed.answers.return_value = False
-        self.assertEqual(await self.its.asked('move'), 'move: refused: no standby is fed here')
-        for fault, words in (TimeoutError(), 'not within 30 s; it is tried on'), (
-                ConnectionRefusedError(111, 'x'), f'refused: there is no holder: {self.folder}/hold: x'):
-            with mock.patch.object(pair, 'heard', side_effect=fault), mock.patch.object(pair, 'PATIENCE', 30.0):
-                self.assertEqual(await self.its.asked('demote'), f'demote: {words}')
+        self.assertEqual(await self.its.change('move'), refused('no standby is fed here'))
+        for fault, answer in (
+                (TimeoutError(), CommandAnswer(AnswerWord.UNKNOWN, 'the holder does not answer within 30 s')),
+                (ConnectionRefusedError(111, 'x'), refused(f'there is no holder: {self.folder}/hold: x'))):
+            with mock.patch.object(door, 'heard', side_effect=fault), mock.patch.object(pair, 'PATIENCE', 30.0):
+                self.assertEqual(await self.its.change('demote'), answer)
         self.assertEqual(self.asked, [])

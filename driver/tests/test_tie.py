@@ -312,7 +312,7 @@ class TieStatusTests(unittest.IsolatedAsyncioTestCase):
             reader, writer = await asyncio.open_unix_connection(path)
             for words, front in ((b'status', b'tie of '), (b'status json', b'{"time": '),
                                  (b'metrics', b'# HELP e1gw_tie_'),
-                                 (b'clear 1', b'there are status, status json and metrics\n\n')):
+                                 (b'clear 1', b'clear 1: refused: there are status, status json and metrics\n\n')):
                 writer.write(words + b'\n')
                 self.assertTrue((await reader.readuntil(b'\n\n')).startswith(front), words)
             writer.close()

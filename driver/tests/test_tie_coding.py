@@ -6,6 +6,7 @@ import unittest
 from typing import Any, Coroutine
 
 from .ties import G726, PCMA
+from e1gw_common.answers import DONE, CommandAnswer, refused
 from e1gw_common.report import Report
 from e1gw_common.lines import State
 from e1gw_tie.coding import CircuitCoding, CodecChanges, Coding
@@ -40,15 +41,16 @@ class CodecChangesTests(unittest.TestCase):
 
     def setUp(self) -> None:
         self.asked, self.events = list[str](), list[Report]()
-        self.looked, self.answers = list[int](), ['done'] * 9
+        self.looked = list[int]()
+        self.answers: list[CommandAnswer | None] = [DONE] * 9
 
     def begin(self, task: Coroutine[Any, Any, None]) -> None:
         with self.assertRaises(StopIteration):
             task.send(None)
 
-    async def answer(self, command: str) -> str | None:
+    async def answer(self, command: str) -> CommandAnswer | None:
         self.asked.append(command)
-        return self.answers.pop(0) or None
+        return self.answers.pop(0)
 
     def tell(self, report: Report) -> None:
         self.events.append(report)
@@ -84,7 +86,7 @@ class CodecChangesTests(unittest.TestCase):
         made.give(1, State.IDLE)
         made.give(1, State.ACKED)
         made.give(3, State.IDLE)
-        self.answers[:2] = ['not now', 'done']
+        self.answers[:2] = [refused('not now'), DONE]
         made.give(1, State.ANSWERED)
         made.give(1, State.CLEAREDBACK)
         made.give(1, State.IDLE)
@@ -106,7 +108,7 @@ class CodecChangesTests(unittest.TestCase):
         made = self.changes(c1=G726)
         self.is_up = False
         made.give(1, State.IDLE)
-        self.is_up, self.answers[:1] = True, ['']
+        self.is_up, self.answers[:1] = True, [None]
         made.give(1, State.IDLE)
         self.assertEqual((self.asked, self.events, self.looked), (['codec 1 pcma 8 auto'], [], []))
         made.give(1, State.IDLE)
@@ -124,7 +126,7 @@ class CodecChangesTests(unittest.TestCase):
         made.give(1, State.ANSWERED)
         made.stands({'circuit': 1, 'codec': 'pcma', 'payload': 8})       # (it is of before the answer)
         self.assertEqual(len(tasks), 1)
-        self.answers[:1] = ['not now']
+        self.answers[:1] = [refused('not now')]
         with self.assertRaises(StopIteration):
             tasks[0].send(None)
         made.give(1, State.ANSWERED)

@@ -131,10 +131,10 @@ class OperatorTests(unittest.TestCase):
         world = self.world(within={'watcher.decisions.QUIET': 0.5})
         events = self.events(world)
         support.until(lambda: bool(world.told()['clock']['stalled']))
-        self.assertEqual(world.ask('seize 1'), 'seize 1: the trunk is stalled')
+        self.assertEqual(world.ask('seize 1'), 'seize 1: refused: the trunk is stalled')
         self.assertIn(' UTC, stalled; the other end: not heard', world.ask('status'))
         while (said := world.ask('seize 1')) != 'seize 1: done':        # (it stalls again on a loaded machine)
-            self.assertEqual(said, 'seize 1: the trunk is stalled')
+            self.assertEqual(said, 'seize 1: refused: the trunk is stalled')
             world.step()
         self.assertEqual(world.known()['circuits'][0]['state'], 'seized')
         (call,) = world.told()['calls']
@@ -146,15 +146,15 @@ class OperatorTests(unittest.TestCase):
         for circuit, line in enumerate(lines, 1):
             line.sendall(f'clear {circuit}\n'.encode())
         for circuit, line in enumerate(lines, 1):
-            said = 'done' if circuit == 1 else 'not in a call'
+            said = 'done' if circuit == 1 else 'refused: not in a call'
             self.assertEqual(line.recv(200).decode(), f'clear {circuit}: {said}\n\n')
             line.close()
         octets = bytearray(world.exchange.multiframe())
         octets[32::64] = b'\xff' * 8                    # bit A (ITU-T G.704, 2.3)
         world.give(bytes(octets))
-        while (said := world.ask('seize 2')) == 'seize 2: the trunk is stalled':
+        while (said := world.ask('seize 2')) == 'seize 2: refused: the trunk is stalled':
             world.give(bytes(octets))
-        self.assertEqual(said, 'seize 2: the other end has no alignment')
+        self.assertEqual(said, 'seize 2: refused: the other end has no alignment')
 
     def test_calls_that_are_cleared(self) -> None:
         """When the last client that has asked for it is gone, or says nothing any more, and in the dark."""

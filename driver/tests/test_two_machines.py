@@ -314,7 +314,7 @@ class TwoMachinesTests(PairCase):
         """Another watcher in the place of its one is fed, can take over, and has what the operator has blocked."""
         a, b = self.calls_with_standby()
         self.assertRegex(a.ask('block 7-8'), 'blocking, until their calls have ended: circuits 7-8\nblock 7-8: done')
-        self.assertEqual(b.ask('block 9'), 'block 9: the other machine is to carry the trunk')
+        self.assertEqual(b.ask('block 9'), 'block 9: refused: the other machine is to carry the trunk')
         support.until(lambda: self.blocked(b) == ['blocking', 'blocking'])
         b.kill_watcher()
         b.watches_again()

@@ -142,7 +142,7 @@ class WatcherShowsTests(WatcherCase):
         for path, words in ('metrics', 'e1gw_trunk_up{trunk="trunk"} 1\n'), ('', 'trunk trunk, e1gw '):
             with urllib.request.urlopen(f'http://127.0.0.1:{port}/{path}', timeout=SECONDS) as page:
                 self.assertIn(words, page.read().decode())
-        self.assertEqual(self.ask('role'), 'role: there is no other machine (--feed, --fed-from)')
+        self.assertEqual(self.ask('role'), 'role: refused: there is no other machine (--feed, --fed-from)')
         self.assertEqual(self.ask('reload force'), 'reload: done')
         self.goes_on()
         self.write('trunk.toml', 'x = 1\n')

@@ -14,6 +14,7 @@ from e1gw.calls import CallRecord, CallsNote, CircuitNote
 from e1gw.counts import PacketsNote, ToldCounts
 from e1gw.crc4 import Crc4Note
 from e1gw.holder_state import ACTIVE, INTERFACE, STANDBY, HolderState, TrunkPlaces, other_interface, state_in
+from e1gw_common.answers import DONE, AnswerWord, CommandAnswer, refused
 from e1gw_common.lines import LineCounts
 from e1gw.lock import InUse
 from e1gw.log_folder import LogPair, LogWriter, logged_by
@@ -208,7 +209,7 @@ class OpenLogTests(support.FolderCase):
 
 
 class HolderDoorTests(support.LoopCase):
-    async def answers(self, answer: bytes | None) -> str:
+    async def answers(self, answer: bytes | None) -> CommandAnswer:
         """What is made of an answer of a holder; of one that answers nothing with None."""
         async def came(reader: asyncio.StreamReader, writer: asyncio.StreamWriter) -> None:
             self.said = await reader.readline()
@@ -225,12 +226,15 @@ class HolderDoorTests(support.LoopCase):
             os.unlink(self.path('hold'))
 
     async def test_each_request_has_an_answer(self) -> None:
-        self.assertEqual(await self.answers(b'reload: done\n'), 'reload: done')
-        self.assertEqual(self.said, b'reload force\n')
-        self.assertEqual(await self.answers(b''), 'reload: the holder has ended before it has answered')
-        self.assertEqual(await self.answers(None),
-                         'reload: the holder does not answer within 0.1 s; it may still be done')
-        self.assertRegex(await door.asked(self.path('hold'), 'quit'),
+        for said, answer in (
+                (b'reload: done\n', DONE), (b'reload: refused: x: no\n', refused('x: no')),
+                (b'reload: circuits 3\nreload: done\n', DONE._replace(told=('circuits 3',))),
+                (b'what?\n', refused('what?')),
+                (b'', CommandAnswer(AnswerWord.UNKNOWN, 'the holder has ended before it has answered')),
+                (None, CommandAnswer(AnswerWord.UNKNOWN, 'the holder does not answer within 0.1 s'))):
+            self.assertEqual(await self.answers(said), answer)
+            self.assertEqual(self.said, b'reload force\n')
+        self.assertRegex((await door.asked(self.path('hold'), 'quit')).lines('quit'),
                          'quit: refused: there is no holder: .*No such file')
 
 

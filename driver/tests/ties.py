@@ -149,7 +149,7 @@ class StandInDriver:
         if answer == 'done':
             self.move(n, to)
         self.tell(event='command', circuit=n, command=words[0], answer=answer)
-        return f'{words[0]} {n}: {answer}'
+        return f'{words[0]} {n}: {"refused: " * (answer != "done")}{answer}'
 
     def status(self) -> dict[str, Any]:
         none = {'frame': False, 'multiframe': False}

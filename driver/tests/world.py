@@ -19,6 +19,7 @@ from .support import SECONDS
 from e1gw.holder.options import FLAGS, TEXTS
 from e1gw_tools.far_exchange import ACKNOWLEDGED, ANSWERED, IDLE, SEIZED
 from e1gw_common.session import MULTIFRAME
+from e1gw_testing import waits
 from e1gw_testing.ports import free_ports
 from e1gw_testing.service import ask
 
@@ -65,7 +66,7 @@ def config_of(circuits: range, codec: str = 'pcma', payload: int = 8, prefill: i
 
 
 NO_EFFECT = 'codec 30 g726-16 95'     # a command that is refused and changes nothing
-NO_EFFECT_ANSWER = 'codec 30: no payload type of the codec'
+NO_EFFECT_ANSWER = 'codec 30: refused: no payload type of the codec'
 
 
 class World:
@@ -101,7 +102,8 @@ class World:
 
     def connected(self) -> None:
         """Waits until the service knows the state of the trunk, which it learns at the first octets that come."""
-        while self.process.poll() is None:
+        end = time.monotonic() + waits.SECONDS
+        while self.process.poll() is None and time.monotonic() < end:
             try:
                 if self.ask_at_once(NO_EFFECT) == NO_EFFECT_ANSWER and self.known()['program']:
                     return

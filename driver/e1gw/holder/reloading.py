@@ -56,8 +56,10 @@ class Reloads:
     def begin(self, request: HolderRequest) -> None:
         """Tries the program and the configuration of now; a program of them follows if they will do."""
         holder = self._holder
-        if self.is_busy or not holder.versions.now or holder.ending:
-            return request.refused('the end is asked for' if holder.ending else 'one is tried already')
+        if holder.ending:
+            return request.refused('the end is asked for')
+        if self.is_busy or not holder.versions.now:
+            return request.busy('one is tried already')
         holder.store.say('RELOADING=1', f'MONOTONIC_USEC={time.monotonic_ns() // 1000}')
         try:
             self._try(request, holder.versions.now)

@@ -34,6 +34,10 @@ class HolderRequest:
     def refused(self, why: str) -> None:
         self.answer(f'{self.word}: refused: {" ".join(why.splitlines())}')
 
+    def busy(self, why: str) -> None:
+        """Nothing is changed, since another one goes on."""
+        self.answer(f'{self.word}: busy: {why}')
+
     def answer(self, words: str) -> None:
         if self._line:
             with suppress(OSError):

@@ -13,6 +13,7 @@ from dataclasses import dataclass, field
 from enum import Enum
 from typing import Any, Callable, Collection, Container, Coroutine, Iterable, Iterator, Mapping
 
+from e1gw_common.answers import DONE, CommandAnswer, refused
 from e1gw_common.faults import words_of_fault
 from e1gw_common.lines import IN_CALL, Line, Role, State, circuit_words
 from e1gw_common.session import CIRCUITS, Command, CommandRefusal
@@ -22,7 +23,7 @@ from ..events import BlockNews, CallsCleared, CircuitsBlocked, Tell
 from ..reports import TrunkState
 
 PATIENCE = 2.0              # seconds for a disk, and for what the program answers
-DONE, NOT_BLOCKED = 'done', CommandRefusal.NOT_BLOCKED.words
+NOT_BLOCKED = CommandRefusal.NOT_BLOCKED
 BY_OPERATOR = 'blocked by the operator (e1gw-ctl NAME unblock)'
 
 logger = logging.getLogger(__name__)
@@ -119,8 +120,8 @@ class KeptBlocks:
 class BlockWatch:
     """Sees to these circuits. `give` gives a command and returns its answer; `tell` reports."""
 
-    def __init__(self, kept: KeptBlocks, lines: TrunkState, give: Callable[[int, Command], Coroutine[Any, Any, str]],
-                 tell: Tell) -> None:
+    def __init__(self, kept: KeptBlocks, lines: TrunkState,
+                 give: Callable[[int, Command], Coroutine[Any, Any, CommandAnswer]], tell: Tell) -> None:
         self.kept, self._state, self._give, self._tell = kept, lines, give, tell
         self._busy, self._blocks = Counter[int](), Tasks()
 
@@ -148,12 +149,12 @@ class BlockWatch:
 
     async def _block(self, n: int) -> None:
         """BlockedCircuits a circuit, which is busy since that was decided."""
-        answer = ''
+        is_done = False
         try:
-            answer = await self._give(n, Command.BLOCK)
+            is_done = (await self._give(n, Command.BLOCK)).is_done
         finally:
             self._busy[n] -= 1
-        if answer == DONE:
+        if is_done:
             self.look()
 
     def _report(self, news: News) -> None:
@@ -166,7 +167,7 @@ class BlockWatch:
         is_taken = circuit in self.kept.now.circuits
         return BY_OPERATOR if is_taken and command in (Command.SEIZE, Command.UNBLOCK) else None
 
-    async def take(self, circuits: Collection[int], is_now: bool) -> list[str]:
+    async def take(self, circuits: Collection[int], is_now: bool) -> CommandAnswer:
         """The operator takes circuits, and has their calls cleared if he wants that `now`. What he is told."""
         told = await self._kept(self.kept.now.taken(circuits))
         ends = {n: command for n in circuits if is_now and (command := self._state.lines[n].ending())}
@@ -178,21 +179,23 @@ class BlockWatch:
             await asyncio.wait(self._blocks, timeout=PATIENCE)
         self.look()
         left = circuit_words(self.kept.now.left(circuits))
-        return [*told, *[f'blocking, until their calls have ended: circuits {left}'] * bool(left), DONE]
+        told += [f'blocking, until their calls have ended: circuits {left}'] * bool(left)
+        return DONE._replace(told=(*told,))
 
-    async def give_back(self, circuits: Collection[int]) -> list[str]:
+    async def give_back(self, circuits: Collection[int]) -> CommandAnswer:
         """The operator gives circuits back. What he is told."""
         its, lines = self.kept.now.circuits.keys() & circuits, self._state.lines
         self.kept.now = self.kept.now.given_back(circuits)      # (so nobody blocks them meanwhile)
         blocked = [n for n in circuits if lines[n].role is Role.INCOMING and (
             lines[n].state is State.BLOCKED or n in its and (self._busy[n] or not self._state.live))]
         answers = dict(zip(blocked, await asyncio.gather(*(self._give(n, Command.UNBLOCK) for n in blocked))))
-        faults = {n: answer for n, answer in answers.items() if answer not in (DONE, NOT_BLOCKED)}
+        faults = {n: answer for n, answer in answers.items() if not (answer.is_done or answer.refusal is NOT_BLOCKED)}
         told = await self._kept(self.kept.now.taken(its & faults.keys())) if its else []
         self._report({BlockNews.UNBLOCKED: sorted(its - faults.keys())})
         if faults:
-            return [*told, f'circuits {circuit_words(faults)}: {next(iter(faults.values()))}']
-        return [*told, DONE if its or blocked else NOT_BLOCKED]
+            first = next(iter(faults.values()))
+            return CommandAnswer(first.word, f'circuits {circuit_words(faults)}: {first.why}', (*told,))
+        return (DONE if its or blocked else refused(NOT_BLOCKED.words))._replace(told=(*told,))
 
     async def _kept(self, now: BlockedCircuits) -> list[str]:
         fault = await self.kept.put(now)

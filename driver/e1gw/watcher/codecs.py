@@ -22,7 +22,7 @@ class CodecWatch:
     """Sees to these. `give` gives a circuit a codec and a payload type, unless it is busy. `note` has `given` noted for
     the next watcher."""
 
-    def __init__(self, state: TrunkState, give: Callable[[int, str, int], Coroutine[Any, Any, str]],
+    def __init__(self, state: TrunkState, give: Callable[[int, str, int], Coroutine[Any, Any, object]],
                  is_busy: Callable[[int], bool], note: Callable[[], None]) -> None:
         self.given = dict[int, int]()           # (see there)
         self._state, self._give, self._is_busy, self._note, self._tasks = state, give, is_busy, note, Tasks()

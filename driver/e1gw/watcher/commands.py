@@ -2,7 +2,8 @@
 
 A line is answered by one or more lines and an empty one:
 
-  seize N, clear N, answer N, clear-back N     `seize 3: done`, or the words of the refusal
+  seize N, clear N, answer N, clear-back N     `seize 3: done`, or `seize 3: refused: ` and why; `seize 3: unknown: `
+                             and why if it may have been done; of other commands also `busy: `
   block N, block N now       the operator takes N, or all of N-M, out of service: at the end of its call, or now
   unblock N                  takes that back
   block N auto, unblock N auto    the same by a program: of an idle incoming circuit, not kept, and no operator's
@@ -27,12 +28,12 @@ import time
 from dataclasses import dataclass, field
 from typing import TYPE_CHECKING
 
+from e1gw_common.answers import refused
 from e1gw_common.report import json_line
 from e1gw_common.session import Codec, Command, circuit_of, circuits_of, codec_record
 from e1gw_common.tasks import Tasks
 from ..events import WatchEnded
 from ..metrics import circuit_table
-from .blocks import DONE
 from .decisions import who_goes
 
 if TYPE_CHECKING:
@@ -42,6 +43,8 @@ MOST_LINE = 4096            # octets of a line
 MOST_CLIENTS = 64
 MOST_HELD = 256 << 10       # octets that wait for a client; one that takes less is closed
 FULL = f'another client has come, and {MOST_CLIENTS} are the most'
+
+NO_CIRCUIT = refused('circuits are 1 to 30')
 
 COMMANDS = {command.word: command for command in Command}
 CODECS = {'pcma': Codec.G711, 'pcmu': Codec.G711} | {codec.word('A'): codec for codec in Codec}
@@ -117,73 +120,77 @@ class CommandServer:
             case ['status', word]:
                 circuit = circuit_of(word)
                 return circuit_table((await pages.fresh()).status, circuit) if circuit else \
-                    f'status {word[:40]}: circuits are 1 to 30'
+                    NO_CIRCUIT.lines(f'status {word[:40]}')
             case ['events']:
                 return 'following'
             case ['on-loss', *rest]:
                 answer = self._trunk.disconnects.asked(peer, rest, peer.last)
                 peer.holds = self._trunk.disconnects.holds(peer)
-                return answer
+                return answer.lines('on-loss')
             case ['help']:
                 return (__doc__ or '').partition('\n\n')[2].rstrip('\n')
             case ['reload'] | ['reload', 'force' | 'when-idle']:
-                return await self._trunk.trunk.reload(*words[1:])
-            case ['role' | 'promote' | 'demote' | 'move' as word]:
-                return await self._trunk.trunk.role(word)
+                return (await self._trunk.trunk.reload(*words[1:])).lines('reload')
+            case ['role']:
+                return self._trunk.trunk.role() or (await self._trunk.trunk.change_role('role')).lines('role')
+            case ['promote' | 'demote' | 'move' as word]:
+                return (await self._trunk.trunk.change_role(word)).lines(word)
             case ['block', _] | ['block', _, 'now'] | ['unblock', _]:
                 return await self._obey_block(*words)
             case ['block' | 'unblock' as name, word, 'auto']:
                 return await self._obey_circuit(name, [word])
             case ['quit']:
-                return await self._trunk.trunk.ends()
+                return (await self._trunk.trunk.ends()).lines('quit')
             case ['codec', *rest]:
                 return await self._obey_codec(rest)
             case [name, *rest] if name in COMMANDS:
                 return await self._obey_circuit(name, rest)
-        return (f'{words[0][:40]}: no such command; there are {", ".join(COMMANDS)}, codec, status, events, '
-                ' role, promote, demote, move, reload, quit and help')
+        return refused(f'no such command; there are {", ".join(COMMANDS)}, codec, status, events, on-loss, role, '
+                       'promote, demote, move, reload, quit and help').lines(words[0][:40])
 
     async def _obey_block(self, name: str, word: str, *now: str) -> str:
         """An operator takes circuits out of service, or gives them back."""
-        trunk, front = self._trunk, f'{name} {word[:40]}: '
+        trunk, front = self._trunk, f'{name} {word[:40]}'
         try:
             circuits = circuits_of(word)
         except ValueError:
-            return f'{front}circuits are 1 to 30'
+            return NO_CIRCUIT.lines(front)
         if trunk.trunk.stands_by():
-            return f'{front}the other machine is to carry the trunk'
-        told = await (trunk.blocks.take(circuits, bool(now)) if name == 'block' else trunk.blocks.give_back(circuits))
-        return '\n'.join(f'{front}{line}' for line in told)
+            return refused('the other machine is to carry the trunk').lines(front)
+        blocks = trunk.blocks
+        answer = await (blocks.take(circuits, bool(now)) if name == 'block' else blocks.give_back(circuits))
+        return answer.lines(front)
 
     async def _obey_circuit(self, name: str, words: list[str]) -> str:
         trunk, command = self._trunk, COMMANDS[name]
         if len(words) != 1:
-            return f'{name}: wants a circuit'
+            return refused('it wants a circuit').lines(name)
         circuit = circuit_of(words[0])
         if not circuit:
-            return f'{name} {words[0][:40]}: circuits are 1 to 30'
-        front = f'{name} {circuit}: '
+            return NO_CIRCUIT.lines(f'{name} {words[0][:40]}')
+        front = f'{name} {circuit}'
         # (No exchange could see a seizure in an outage, and 200 ms later it would be released.)
         outage = trunk.status.outage() if command is Command.SEIZE else None
         if fault := trunk.blocks.refusal(circuit, command) or outage:
             trunk.count(circuit, name, fault)
-            return front + fault
-        return front + await trunk.give(circuit, command)
+            return refused(fault).lines(front)
+        return (await trunk.give(circuit, command)).lines(front)
 
     async def _obey_codec(self, words: list[str]) -> str:
         trunk = self._trunk
         if len(words) < 3 or words[3:] not in ([], ['auto']):
-            return 'codec: wants a circuit, a codec and a payload type'
+            return refused('it wants a circuit, a codec and a payload type').lines('codec')
         circuit = circuit_of(words[0])
         if not circuit:
-            return f'codec {words[0][:40]}: circuits are 1 to 30'
-        fault = codec_fault(words[1:3], trunk.status.lines.law)
-        if not fault:
-            record = codec_record(circuit, CODECS[words[1]], int(words[2]))
-            fault = await trunk.command(record, circuit, ' '.join(['codec', *words[1:]]))
-            if fault == DONE:
-                trunk.codecs.was_given(circuit)
-        return f'codec {circuit}: {fault}'
+            return NO_CIRCUIT.lines(f'codec {words[0][:40]}')
+        front = f'codec {circuit}'
+        if fault := codec_fault(words[1:3], trunk.status.lines.law):
+            return refused(fault).lines(front)
+        record = codec_record(circuit, CODECS[words[1]], int(words[2]))
+        answer = await trunk.command(record, circuit, ' '.join(['codec', *words[1:]]))
+        if answer.is_done:
+            trunk.codecs.was_given(circuit)
+        return answer.lines(front)
 
 
 def codec_fault(words: list[str], law: str) -> str | None:

@@ -19,7 +19,11 @@ SOON = 0.002                # seconds between two looks whether it has told
 
 
 class NoAnswer(Exception):
-    """Why a record has no answer."""
+    """Why a record has no answer, and whether it was given to a program."""
+
+    def __init__(self, why: str, is_given: bool) -> None:
+        super().__init__(why)
+        self.is_given = is_given
 
 
 @dataclass(eq=False)
@@ -76,7 +80,7 @@ class ProgramConnection:
         self._writer = None
         for each in self._given:
             if not each.answer.done():
-                each.answer.set_exception(NoAnswer('no answer, the connection to the program is lost'))
+                each.answer.set_exception(NoAnswer('no answer, the connection to the program is lost', True))
 
     async def ask(self, record: bytes, teller: Callable[[], object], waits: bool = True) -> Record:
         """The answer to a record, once the record is reported, too: what follows from it is known
@@ -85,7 +89,7 @@ class ProgramConnection:
         while waits and not self._writer and not self._fault() and time.monotonic() < self._lost + NEXT:
             await asyncio.sleep(SOON)
         if not self._writer:
-            raise NoAnswer(self._fault() or 'no connection to the program')
+            raise NoAnswer(self._fault() or 'no connection to the program', False)
         self._given.append(given := GivenRecord(record, asyncio.get_running_loop().create_future()))
         self._writer.write(record)
         its = teller()

@@ -3,6 +3,7 @@ from __future__ import annotations
 
 import asyncio
 
+from e1gw_common.answers import AnswerWord, CommandAnswer, answer_in, refused
 from e1gw_common.faults import words_of_fault
 
 PATIENCE = 90.0             # seconds for a version to be tried, and for a program of it to carry the trunk
@@ -20,13 +21,15 @@ async def heard(path: str, words: str, seconds: float) -> str:
             writer.close()
 
 
-async def asked(path: str, words: str, seconds: float | None = None) -> str:
+async def asked(path: str, words: str, seconds: float | None = None) -> CommandAnswer:
     """The answer of the holder to words, or that there is none."""
-    front, seconds = words.split()[0], PATIENCE if seconds is None else seconds
+    seconds = PATIENCE if seconds is None else seconds
     try:
-        answer = await heard(path, words, seconds)
+        lines = (await heard(path, words, seconds)).splitlines()
     except TimeoutError:
-        return f'{front}: the holder does not answer within {seconds:g} s; it may still be done'
+        return CommandAnswer(AnswerWord.UNKNOWN, f'the holder does not answer within {seconds:g} s')
     except OSError as fault:
-        return f'{front}: refused: there is no holder: {words_of_fault(fault, path)}'
-    return answer or f'{front}: the holder has ended before it has answered'
+        return refused(f'there is no holder: {words_of_fault(fault, path)}')
+    if not lines:
+        return CommandAnswer(AnswerWord.UNKNOWN, 'the holder has ended before it has answered')
+    return answer_in(lines) or refused(lines[-1])

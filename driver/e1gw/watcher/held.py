@@ -11,6 +11,7 @@ from contextlib import contextmanager, suppress
 from dataclasses import dataclass
 from typing import TYPE_CHECKING, Any, Iterator
 
+from e1gw_common.answers import CommandAnswer, refused
 from e1gw_common.faults import words_of_fault
 from e1gw_common.lines import SEIZURE_WAIT
 from e1gw_common.session import OCTETS_A_SECOND
@@ -266,14 +267,17 @@ class HeldTrunk(WatchedTrunk):
 
     # ---- what is asked ----
 
-    async def ends(self) -> str:
+    async def ends(self) -> CommandAnswer:
         return await asked(self._places.hold, 'quit')
 
-    async def reload(self, *how: str) -> str:
+    async def reload(self, *how: str) -> CommandAnswer:
         return await asked(self._places.hold, ' '.join(['reload', *how]))
 
-    async def role(self, word: str) -> str:
-        return await self.pair.asked(word) if self.pair else f'{word}: there is no other machine (--feed, --fed-from)'
+    async def change_role(self, word: str) -> CommandAnswer:
+        return await self.pair.change(word) if self.pair else refused('there is no other machine (--feed, --fed-from)')
+
+    def role(self) -> str | None:
+        return self.pair.role() if self.pair else None
 
     def close(self) -> None:
         self._line.close()

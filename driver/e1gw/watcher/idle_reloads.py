@@ -30,4 +30,4 @@ class IdleReloadWatch:
 
     async def _reload(self) -> None:
         answer = await self._trunk.reload('when-idle')
-        self._reloads = self._reloads.answered(time.monotonic(), answer.endswith(': done'))
+        self._reloads = self._reloads.answered(time.monotonic(), answer.is_done)

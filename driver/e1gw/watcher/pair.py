@@ -9,13 +9,14 @@ import logging
 import time
 from typing import Any
 
+from e1gw_common.answers import CommandAnswer, refused
 from e1gw_common.faults import words_of_fault
 from e1gw_common.tasks import Tasks, goes_on
 from e1gw_common.tls import context_of
 from ..events import Tell
 from ..holder_state import start_of
 from ..log_folder import LogPair
-from .door import heard
+from .door import asked
 from .feed import FRESH, FeedServer
 from .held import HeldTrunk
 from .journal import NOTICE
@@ -25,7 +26,7 @@ from .standby import FedLog, TrunkStandby
 PATIENCE = 30.0             # seconds for a promotion or its reverse
 GRACE = 5.0                 # seconds for the other machine to be fed the rest
 AGAIN = 1.0                 # seconds before a port that cannot be had is tried again
-DONE, REVERSE = 'done', 'refused: the reverse was asked for meanwhile'
+REVERSE = 'the reverse was asked for meanwhile'
 NOT_TAKEN = 'the standby did not take the trunk, and this machine carries it again'
 
 logger = logging.getLogger(__name__)
@@ -37,7 +38,7 @@ class TrunkPair:
     def __init__(self, trunk: HeldTrunk, standby: TrunkStandby, feed: FeedServer) -> None:
         self._trunk, self._standby, self._feed = trunk, standby, feed
         self._follows: asyncio.Task[None] | None = None         # by which it is fed
-        self._change: asyncio.Task[str] | None = None           # what was asked for last
+        self._change: asyncio.Task[CommandAnswer] | None = None           # what was asked for last
         self._word, self._has_carried, self._tasks = '', False, Tasks()
         standby.is_handed, standby.carries, standby.blocks = self._is_handed, self._carries, self._blocked
 
@@ -109,19 +110,24 @@ class TrunkPair:
 
     # ---- what is asked ----
 
-    async def asked(self, word: str) -> str:
-        """The answer to `role`, `promote`, `demote` or `move`."""
-        its, stands = self.facts(), self._trunk.stands_by()
-        lacks = '' if stands or self._carries() else ', no program'
-        if word == 'role':
-            return f'{its["role"]}, {"fed" if its["fed"] else "not fed"}{lacks}'
-        if word == 'move' and (stands or lacks or not its['fed'] or not await self._feed.answers()):
-            return 'move: refused: no standby is fed here'
+    def _lacks_program(self) -> bool:
+        return not (self._trunk.stands_by() or self._carries())
+
+    def role(self) -> str:
+        """The role of this machine, and whether the standby is fed."""
+        its = self.facts()
+        return f'{its["role"]}, {"fed" if its["fed"] else "not fed"}{", no program" * self._lacks_program()}'
+
+    async def change(self, word: str) -> CommandAnswer:
+        """The answer to `promote`, `demote` or `move`."""
+        if word == 'move' and (self._trunk.stands_by() or self._lacks_program() or not self.facts()['fed']
+                               or not await self._feed.answers()):
+            return refused('no standby is fed here')
         change = self._begins(word)
         await asyncio.wait([change])
-        return f'{word}: {REVERSE if change.cancelled() else change.result()}'
+        return refused(REVERSE) if change.cancelled() else change.result()
 
-    def _begins(self, word: str) -> asyncio.Task[str]:
+    def _begins(self, word: str) -> asyncio.Task[CommandAnswer]:
         """One change at a time: another one ends that which goes on, the same one is that."""
         change = self._change
         if not change or change.done() or self._word != word:
@@ -130,17 +136,17 @@ class TrunkPair:
             self._word, self._change = word, (change := asyncio.create_task(self._does(word)))
         return change
 
-    async def _does(self, word: str) -> str:
+    async def _does(self, word: str) -> CommandAnswer:
         try:
             answer = await {'promote': self._take, 'demote': self._release, 'move': self._move}[word]()
         except Exception as fault:      # pylint: disable=broad-exception-caught
             logger.error('%s: %s', word, words_of_fault(fault))
-            answer = f'refused: {words_of_fault(fault)}'
+            answer = refused(words_of_fault(fault))
         with goes_on('the role of the trunk'):
             self._follow_role()
         return answer
 
-    async def _take(self) -> str:
+    async def _take(self) -> CommandAnswer:
         """The trunk is to come here, with what is known of it up to now."""
         trunk, standby, words = self._trunk, self._standby, 'take'
         if follows := self._follows:
@@ -158,37 +164,31 @@ class TrunkPair:
             standby.knows(None)
         return answer
 
-    async def _release(self) -> str:
+    async def _release(self) -> CommandAnswer:
         """It is to go, and the other machine has all of it."""
         answer = await self._says('release')
         await self._feed.finish(GRACE)
         return answer
 
-    async def _move(self) -> str:
+    async def _move(self) -> CommandAnswer:
         """The same, and the feed says that the other one is to carry it. If it does not this one takes it back."""
         self._feed.hands_over, self._feed.is_carried = True, False
         try:
             answer = await self._release()
-            if answer != DONE or self._feed.is_carried:
+            if not answer.is_done or self._feed.is_carried:
                 return answer
             logger.error('move: %s', NOT_TAKEN)
             self._knows_own()
             answer = await self._take()
-            return f'refused: {NOT_TAKEN}' if answer == DONE else answer
+            return refused(NOT_TAKEN) if answer.is_done else answer
         finally:
             self._feed.hands_over = False
 
-    async def _says(self, words: str) -> str:
-        """What the holder answers, as far as that is not the word."""
-        trunk, path = self._trunk, self._trunk.places().hold
-        try:
-            answer = await heard(path, words, PATIENCE) or 'refused: the holder has ended'
-        except TimeoutError:
-            answer = f'not within {PATIENCE:g} s; it is tried on'
-        except OSError as fault:
-            answer = f'refused: there is no holder: {words_of_fault(fault, path)}'
-        trunk.look()
-        return answer.removeprefix(f'{words.split()[0]}: ')
+    async def _says(self, words: str) -> CommandAnswer:
+        """What the holder answers."""
+        answer = await asked(self._trunk.places().hold, words, PATIENCE)
+        self._trunk.look()
+        return answer
 
     def _is_handed(self, takes: bool) -> None:
         """The other machine hands it over, or takes it back."""

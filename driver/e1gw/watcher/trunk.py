@@ -10,6 +10,7 @@ from abc import ABC, abstractmethod
 from contextlib import AbstractContextManager, suppress
 from typing import Any, Protocol, Sequence
 
+from e1gw_common.answers import CommandAnswer
 from e1gw_common.faults import words_of_fault
 from e1gw_common.session import whole_records
 from .connection import connected
@@ -87,16 +88,20 @@ class WatchedTrunk(ABC):
         """The octet of the trunk with which the program of now has begun."""
 
     @abstractmethod
-    async def ends(self) -> str:
+    async def ends(self) -> CommandAnswer:
         """The end is asked for."""
 
     @abstractmethod
-    async def reload(self, *how: str) -> str:
+    async def reload(self, *how: str) -> CommandAnswer:
         """The program and the configuration of now are to follow."""
 
     @abstractmethod
-    async def role(self, word: str) -> str:
-        """The answer to `role`, `promote`, `demote` or `move`."""
+    async def change_role(self, word: str) -> CommandAnswer:
+        """The answer to `promote`, `demote` or `move`."""
+
+    @abstractmethod
+    def role(self) -> str | None:
+        """Which of two machines this is, in words; None if there is no other one."""
 
     # ---- what its log says ----
 

@@ -13,8 +13,8 @@ from dataclasses import dataclass, field, replace
 from itertools import islice
 from typing import Any
 
+from e1gw_common.answers import DONE, AnswerWord, CommandAnswer, refused_by
 from e1gw_common.call_lines import FIELDS
-from e1gw_common.faults import words_of_refusal
 from e1gw_common.line_files import EventFile, has_line
 from e1gw_common.lines import Role, State
 from e1gw_common.report import json_line
@@ -124,21 +124,21 @@ class TrunkWatch:
 
     # ---- what is done with calls ----
 
-    async def command(self, record: bytes, circuit: int, words: str) -> str:
+    async def command(self, record: bytes, circuit: int, words: str) -> CommandAnswer:
+        """Has the program do a command of a circuit."""
         try:
             with self.blocks.under_way(circuit):
                 refusal = (await self._program.ask(record, self.status.teller)).refusal
-            text = refusal.words if refusal else 'done'
-            more = words_of_refusal(refusal, circuit, self._lines.lines[circuit].role) if refusal else text
+            answer = refused_by(refusal, circuit, self._lines.lines[circuit].role) if refusal else DONE
         except NoAnswer as fault:
-            text = more = str(fault)
-        self.count(circuit, words, text)
-        return more
+            answer = CommandAnswer(AnswerWord.UNKNOWN if fault.is_given else AnswerWord.REFUSED, str(fault))
+        self.count(circuit, words, answer.short)
+        return answer
 
-    async def give(self, circuit: int, command: Command) -> str:
+    async def give(self, circuit: int, command: Command) -> CommandAnswer:
         return await self.command(command_record(circuit, command), circuit, command.word)
 
-    async def give_codec(self, circuit: int, codec: str, payload: int) -> str:
+    async def give_codec(self, circuit: int, codec: str, payload: int) -> CommandAnswer:
         return await self.command(self._codec_record(circuit, codec, payload), circuit, f'codec {codec} {payload} auto')
 
     def _codec_record(self, circuit: int, codec: str, payload: int) -> bytes:
