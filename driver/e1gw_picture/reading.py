@@ -9,9 +9,9 @@ from typing import Any
 from e1gw_common.lines import SEIZURE_WAIT, WAIT, lines_of
 from e1gw_common.session import MULTIFRAME, Codec, Command, Kind, refusal_of, trunk_record
 from e1gw_common.session_files import InputError
-from .facts import Facts, Row
-from .listening import SpeechListener
-from .replay import Replay
+from e1gw_picture.facts import Facts, Row
+from e1gw_picture.listening import SpeechListener
+from e1gw_picture.replay import Replay
 
 TRUNK, DATAGRAM = int(Kind.TRUNK), int(Kind.DATAGRAM)
 HEAD = 4                    # octets of a record before its body
@@ -56,10 +56,11 @@ def records_of(octets: Iterable[bytes]) -> Iterator[bytes]:
 
 
 class SessionReading:
-    """A session while it is read. It begins at a place of the trunk, with the gateway as reported."""
+    """A session while it is read. It begins at a place of the trunk, with the gateway as reported. `only` is the
+    circuit whose packets are counted, if it is one alone."""
 
-    def __init__(self, facts: Facts, replay: Replay, program: str | None = None, place: int = 0) -> None:
-        self.facts, self.replay = facts, replay
+    def __init__(self, facts: Facts, replay: Replay, program: str | None = None, place: int = 0, only: int = 0) -> None:
+        self.facts, self.replay, self.only = facts, replay, only
         self.listener = SpeechListener(facts, program)
         self.begin = self.place = place         # of the session, of all that was answered
         self.at = self.changed = place          # of the last report, and of the last reported change
@@ -122,8 +123,8 @@ class SessionReading:
             self.listener.trunk(octets, self.place)
         self._hear()
         facts.turn(self.place)
-        for circuit, count in self.sent.items():
-            facts.rows[circuit].cell.sent += count
+        for circuit in (self.only,) if self.only else self.sent:
+            facts.rows[circuit].cell.sent += self.sent[circuit]
         self.sent = dict.fromkeys(self.sent, 0)
         return whole
 
