@@ -9,9 +9,9 @@ from typing import Any
 from e1gw_common.lines import SEIZURE_WAIT, WAIT, lines_of
 from e1gw_common.session import MULTIFRAME, Codec, Command, Kind, refusal_of, trunk_record
 from e1gw_common.session_files import InputError
-from e1gw_picture.facts import Facts, Row
-from e1gw_picture.listening import SpeechListener
-from e1gw_picture.replay import Replay
+from .facts import Facts, Row
+from .listening import SpeechListener
+from .replay import Replay
 
 TRUNK, DATAGRAM = int(Kind.TRUNK), int(Kind.DATAGRAM)
 HEAD = 4                    # octets of a record before its body

@@ -7,12 +7,12 @@ from collections.abc import Iterator
 
 from e1gw_common.session import OCTETS_A_SECOND
 from e1gw_common.session_files import InputError, kept
-from e1gw_picture.beginning import NO_CONFIG, begin_at
-from e1gw_picture.facts import Facts
-from e1gw_picture.findings import NO_FAULT, findings
-from e1gw_picture.main import facts_of
-from e1gw_picture.reading import SessionReading
-from e1gw_picture.svg import duration
+from .beginning import NO_CONFIG, begin_at
+from .facts import Facts
+from .findings import NO_FAULT, findings
+from .main import facts_of
+from .reading import SessionReading
+from .svg import duration
 
 LAST = 30.0                 # seconds that are looked at
 

@@ -9,8 +9,8 @@ from dataclasses import dataclass
 from typing import Any, Callable, Iterable, NamedTuple
 
 from e1gw_common.lines import State
-from e1gw_tie.events import CodecGiven, Tell, Warned
-from e1gw_tie.trunk import TrunkLink
+from .events import CodecGiven, Tell, Warned
+from .trunk import TrunkLink
 
 
 class Coding(NamedTuple):

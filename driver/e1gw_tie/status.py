@@ -12,8 +12,8 @@ from e1gw_common.lines import IN_CALL
 from e1gw_common.prometheus import Family, text_of
 from e1gw_common.unix_listener import unix_listener
 from e1gw_common.web import StatusTexts, WebServer
-from e1gw_tie.circuit import LinkState
-from e1gw_tie.tie import Tie
+from .circuit import LinkState
+from .tie import Tie
 
 SECONDS = 60.0              # for one who asks at the socket
 MODE = 0o660                # of the socket

@@ -9,14 +9,14 @@ from typing import Any
 
 from e1gw_common.lines import IN_CALL, Role, State
 from e1gw_common.session import Command
-from e1gw_tie.circuit import NO_CALL, CircuitEnd, LinkState, TieCircuit, begun, call_name
-from e1gw_tie.coding import CodecChanges
-from e1gw_tie.events import (CallOver, CommandAnswered, Dark, Light, LinkChanged, ReleaseStuck, SiteCame, SiteGone, Tell,
+from .circuit import NO_CALL, CircuitEnd, LinkState, TieCircuit, begun, call_name
+from .coding import CodecChanges
+from .events import (CallOver, CommandAnswered, Dark, Light, LinkChanged, ReleaseStuck, SiteCame, SiteGone, Tell,
                      TrunkFollowed, Warned)
-from e1gw_tie.messages import Greeting, Message, SiteState
-from e1gw_tie.pairs import Pairs, agreed
-from e1gw_tie.site import Site
-from e1gw_tie.trunk import Told, TrunkLink
+from .messages import Greeting, Message, SiteState
+from .pairs import Pairs, agreed
+from .site import Site
+from .trunk import Told, TrunkLink
 
 STUCK = 2.0                 # seconds of a release that the exchange ignores
 ANSWER_LASTS = 0.1          # seconds of an answer at least, so that the exchange recognises it

@@ -10,10 +10,10 @@ from e1gw_common.answers import CommandAnswer, answer_in, refused
 from e1gw_common.faults import words_of_fault
 from e1gw_common.lines import UNKNOWN
 from e1gw_common.tasks import Tasks
-from e1gw_tie.events import TrunkGone, Warned
+from .events import TrunkGone, Warned
 
 if TYPE_CHECKING:
-    from e1gw_tie.tie import Tie
+    from .tie import Tie
 
 LOOK = 0.5                  # seconds between two looks at the trunk
 SOON = 0.1                  # seconds until a connection is retried

@@ -10,7 +10,7 @@ from unittest import mock
 
 from . import support
 from e1gw_common.answers import DONE, AnswerWord, CommandAnswer, refused
-from e1gw.holder_state import ACTIVE, STANDBY, TrunkPlaces
+from e1gw.holder_state import ACTIVE, STANDBY, TrunkPlaces, start_of
 from e1gw.watcher import door, pair
 from e1gw.watcher.pair import NOT_TAKEN, REVERSE, TrunkPair
 
