@@ -21,7 +21,7 @@ RATE_LIMIT = 200            # parts in a million
 HALF, LEAST = 10.0, 14.0    # seconds of which the least lateness is compared with that before; and of both, the fewest
 APART = 0.01                # seconds by which these differ at most: of 10 s a thousandth
 EACH = 1.0                  # seconds of which the least lateness is kept
-PAUSE = 1.0                 # seconds without octets, which are told as a stall
+PAUSE = 1.0                 # seconds without octets, behind which the rate is measured anew
 
 
 @dataclass(frozen=True)
