@@ -10,6 +10,7 @@ from typing import Any
 from e1gw_common.answers import refused
 from e1gw_common.lines import IN_CALL
 from e1gw_common.prometheus import Family, text_of
+from e1gw_common.tasks import Tasks
 from e1gw_common.unix_listener import unix_listener
 from e1gw_common.web import StatusTexts, WebServer
 from .circuit import LinkState
@@ -81,7 +82,7 @@ async def serve_status(tie: Tie, path: str | None, http: tuple[str, int] | None)
     async def fresh() -> StatusTexts:
         return texts_of(tie)
 
-    async def came(reader: asyncio.StreamReader, writer: asyncio.StreamWriter) -> None:
+    async def answers(reader: asyncio.StreamReader, writer: asyncio.StreamWriter) -> None:
         with suppress(OSError, ValueError):
             async with asyncio.timeout(SECONDS):
                 while line := await reader.readline():
@@ -92,6 +93,10 @@ async def serve_status(tie: Tie, path: str | None, http: tuple[str, int] | None)
                     writer.write(f'{answer.rstrip()}\n\n'.encode())
                     await writer.drain()
         writer.close()
+
+    def came(reader: asyncio.StreamReader, writer: asyncio.StreamWriter) -> None:
+        tasks.begin(answers(reader, writer))        # (a coroutine that is cancelled at the end asyncio would report)
+    tasks = Tasks()
     if path:
         await asyncio.start_unix_server(came, sock=unix_listener(path, MODE, None), limit=MOST_LINE)
     if http:

@@ -236,7 +236,7 @@ class FeedTests(support.LoopCase):
                 reader, _ = await asyncio.open_connection(*self.place, ssl=ssl._create_unverified_context())
                 self.assertEqual(await reader.read(1), b'')         # (it shows none)
             reader, _ = await asyncio.open_connection(*self.place, local_addr=('127.0.0.9', 0))
-            self.assertEqual(await reader.read(), b'')
+            self.assertEqual(await asyncio.wait_for(reader.read(), support.SECONDS), b'')
         self.assertIn('feed: 127.0.0.9 is not --fed-from, and is fed nothing', [
             each.getMessage() for each in told.records])
 
