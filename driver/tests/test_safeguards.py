@@ -15,6 +15,7 @@ from e1gw.holder import holder as held, main, starting
 from e1gw.log_folder import LogPair
 from e1gw.watcher import pages
 from e1gw.watcher.reader import LogReader
+from e1gw_common.unix_listener import CannotListen, unix_listener
 
 
 class FolderOwnTests(FolderCase):
@@ -94,3 +95,14 @@ class HostTests(unittest.IsolatedAsyncioTestCase):
                                  run_process=mock.AsyncMock(return_value=(0, '', b'x'))):
             self.assertEqual(await pages.picture_of([]), b'x')
         behind.assert_called_once_with(7, pages.NICE)
+
+
+class ControlPlaceTests(FolderCase):
+    def test_a_place_of_another(self) -> None:
+        """Neither a socket at which somebody listens is taken, nor a file; one that was left is."""
+        place = self.path('control')
+        with unix_listener(place, 0o600, None), socket.socket(socket.AF_UNIX) as client:
+            self.assertRaisesRegex(CannotListen, 'another one listens', unix_listener, place, 0o600, None)
+            client.connect(place)
+        unix_listener(place, 0o600, None).close()
+        self.assertRaisesRegex(CannotListen, 'no socket', unix_listener, self.write('file', b''), 0o600, None)
