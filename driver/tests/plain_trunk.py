@@ -3,13 +3,13 @@ from __future__ import annotations
 
 from contextlib import AbstractContextManager, nullcontext
 from types import SimpleNamespace
-from typing import Any, cast
+from typing import cast
 
 from e1gw_common.answers import DONE, CommandAnswer
 from e1gw.watcher.blocks import KeptBlocks
 from e1gw.watcher.reader import LogReader
 from e1gw.watcher.replay import ReplayVersion
-from e1gw.watcher.trunk import WatchedPlaces, WatchedTrunk
+from e1gw.watcher.trunk import TrunkFacts, WatchedPlaces, WatchedTrunk
 
 
 class PlainTrunk(WatchedTrunk):
@@ -38,8 +38,8 @@ class PlainTrunk(WatchedTrunk):
     def version(self) -> AbstractContextManager[ReplayVersion]:
         return nullcontext(cast(ReplayVersion, SimpleNamespace(name='')))
 
-    def facts(self) -> dict[str, Any]:
-        return {'fault': ''}
+    def facts(self) -> TrunkFacts:
+        return TrunkFacts()
 
     def outage(self) -> str | None:
         return None

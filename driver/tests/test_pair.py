@@ -96,7 +96,7 @@ class PairTests(support.LoopCase):
         self.state.role, self.state.program = STANDBY, os.getpid()
         self.its.look()
         await asyncio.sleep(0)
-        self.assertEqual((self.runs, self.its.facts()['role']), ([], 'active'))
+        self.assertEqual((self.runs, self.its.facts().role), ([], 'active'))
         self.assertEqual(await self.its.change('promote'), DONE)
         self.standby.fill.assert_not_awaited()
         self.trunk.reader.begins_anew.assert_not_called()

@@ -12,6 +12,7 @@ from e1gw.events import Disconnected, Event, LineChanged
 from e1gw.reports import BadTelling, TrunkState
 from e1gw_common.session import DatagramRefusal
 from e1gw.watcher import status
+from e1gw.watcher.trunk import TrunkFacts
 
 IDLE = [f'{n:2} outgoing idle        10 10          0          0          0 pcma      8' for n in range(1, 31)]
 BEGIN = ['e1gw tell 1 A', 'at 512', 'alarms 0 0 0 0', *(f'line {each}' for each in IDLE)]
@@ -219,7 +220,7 @@ class ReportReadingTests(support.LoopCase):
         events, config = list[Event](), self.write('trunk.toml', 'law = "A"\n[[circuit]]\nnumber = 1\n')
         tell = self.path('tell')
         trunk = mock.Mock(**{
-            'places.return_value.tell': tell, 'config_path.return_value': config, 'facts.return_value': {},
+            'places.return_value.tell': tell, 'config_path.return_value': config, 'facts.return_value': TrunkFacts(),
             'session.return_value': '', 'begun.return_value': 0, 'missed': mock.AsyncMock(return_value=None),
             'know_place': mock.AsyncMock()})
         with support.listening(tell) as listener, mock.patch.object(status, 'REST', 0.001):

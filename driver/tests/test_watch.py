@@ -30,14 +30,11 @@ from e1gw.watcher.note import typed
 from e1gw.watcher.page import PageNotes, body_of, parts_of
 from e1gw_common.web import MOST_VISITORS, WebServer
 from e1gw.watcher.pages import TrunkPages
+from e1gw.watcher.trunk import PairFacts, TrunkFacts
 from e1gw_common.session import CIRCUITS, OCTETS_A_SECOND, Command, command_record
 
 
 COUNTED = 'seizures', 'answers', 'unacknowledged', 'faults', 'lost', 'datagrams'
-FACTS: dict[str, Any] = {'since': 0.0, 'fault': '', 'version': '', 'senders': '', 'log_losses': 0, 'carried': {},
-                         'pair': {}, 'session': None}
-
-
 class TrunkWatchCase(support.LoopCase):
     """A trunk without a program; `facts` are what is known of it. `given` has the records for the program, `told` the
     events."""
@@ -46,7 +43,7 @@ class TrunkWatchCase(support.LoopCase):
         config = self.write('trunk.toml', 'law = "A"\n')
         its = mock.Mock(flow=dict, **{
             'places.return_value.tell': config, 'config_path.return_value': config, 'place.return_value': 0,
-            'outage.return_value': None, 'facts.return_value': FACTS | facts, 'starts.return_value': (),
+            'outage.return_value': None, 'facts.return_value': TrunkFacts(**facts), 'starts.return_value': (),
             'begun.return_value': 0})
         found = watch.TrunkWatch(watch.WatchWants(name='west', calls=self.path('calls')), its)
         self.addCleanup(found._close)
@@ -180,7 +177,7 @@ class WatchEdgeTests(TrunkWatchCase):
 
     async def test_a_standby_writes_no_calls(self) -> None:
         for role, lines in ('standby', 0), ('active', 1):
-            found = self.watched(pair={'role': role})
+            found = self.watched(pair=PairFacts(role == 'standby', True, 0.0))
             assert found._calls
             with mock.patch.object(found._calls, 'put') as put:
                 found._put_call('a line')

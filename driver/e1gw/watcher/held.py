@@ -9,7 +9,7 @@ import os
 import re
 from contextlib import contextmanager, suppress
 from dataclasses import dataclass
-from typing import TYPE_CHECKING, Any, Iterator
+from typing import TYPE_CHECKING, Iterator
 
 from e1gw_common.answers import CommandAnswer, refused
 from e1gw_common.faults import words_of_fault
@@ -27,7 +27,7 @@ from .blocks import KeptBlocks
 from .reader import MOST_FOUND, LogReader
 from .replay import ReplayVersion
 from .said import LineNote, SaidLine
-from .trunk import WatchedTrunk, place_told
+from .trunk import TrunkFacts, WatchedTrunk, place_told
 
 if TYPE_CHECKING:
     from .pair import TrunkPair
@@ -228,13 +228,12 @@ class HeldTrunk(WatchedTrunk):
         finally:
             its.close()
 
-    def facts(self) -> dict[str, Any]:
+    def facts(self) -> TrunkFacts:
         state, line = self.state, self._line
-        return {'since': state.opened, 'fault': fault_of(state), 'version': state.program_version,
-                'senders': state.senders, 'log_losses': self._log_losses, 'waiting': state.wait,
-                'pair': self.pair.facts() if self.pair else {}, 'session': self._reader.why(),
-                'carried': {'transport': {'trunk': state.trunk, **line.status(), **self._card.status()},
-                            'crc4': line.crc4 and line.crc4.status()}}
+        carried = {'transport': {'trunk': state.trunk, **line.status(), **self._card.status()},
+                   'crc4': line.crc4 and line.crc4.status()}
+        return TrunkFacts(state.opened, fault_of(state), state.program_version, state.senders, self._log_losses,
+                          state.wait, self._reader.why(), carried, self.pair.facts() if self.pair else None)
 
     def outage(self) -> str | None:
         return self._card.outage()

@@ -18,8 +18,7 @@ class IdleReloadWatch:
 
     def waiting(self) -> tuple[int, ...]:
         """The circuits."""
-        waiting: tuple[int, ...] = self._trunk.facts().get('waiting', ())
-        return waiting
+        return self._trunk.facts().waiting
 
     def look(self, now: float) -> None:
         """To be called now and then."""

@@ -7,7 +7,7 @@ import argparse
 import asyncio
 import logging
 import time
-from typing import Any
+from dataclasses import replace
 
 from e1gw_common.answers import CommandAnswer, refused
 from e1gw_common.faults import words_of_fault
@@ -22,6 +22,7 @@ from .held import HeldTrunk
 from .journal import NOTICE
 from .options import feeding_of
 from .standby import FedLog, TrunkStandby
+from .trunk import PairFacts
 
 PATIENCE = 30.0             # seconds for a promotion or its reverse
 GRACE = 5.0                 # seconds for the other machine to be fed the rest
@@ -116,11 +117,11 @@ class TrunkPair:
     def role(self) -> str:
         """The role of this machine, and whether the standby is fed."""
         its = self.facts()
-        return f'{its["role"]}, {"fed" if its["fed"] else "not fed"}{", no program" * self._lacks_program()}'
+        return f'{its.role}, {"fed" if its.fed else "not fed"}{", no program" * self._lacks_program()}'
 
     async def change(self, word: str) -> CommandAnswer:
         """The answer to `promote`, `demote` or `move`."""
-        if word == 'move' and (self._trunk.stands_by() or self._lacks_program() or not self.facts()['fed']
+        if word == 'move' and (self._trunk.stands_by() or self._lacks_program() or not self.facts().fed
                                or not await self._feed.answers()):
             return refused('no standby is fed here')
         change = self._begins(word)
@@ -200,13 +201,13 @@ class TrunkPair:
         """What is fed here, while this machine stands by."""
         return self._standby.fed if self._trunk.stands_by() else None
 
-    def facts(self) -> dict[str, Any]:
-        """Role and feed, as plain values."""
+    def facts(self) -> PairFacts:
+        """Role and feed."""
         standby, stands = self._standby, self._stands()
         age = standby.age() if stands else self._feed.age()
-        return {'role': 'standby' if stands else 'active', 'fed': age is not None and age <= FRESH,
-                'feed_age': age and round(age, 3), **({} if not stands else {
-                    'feed_fault': standby.why or None, 'differs': standby.fed.circuits if standby.fed else []})}
+        its = PairFacts(stands, age is not None and age <= FRESH, age and round(age, 3))
+        return replace(its, feed_fault=standby.why or None,
+                       differs=(*standby.fed.circuits,) if standby.fed else ()) if stands else its
 
     def _blocked(self, circuits: list[int]) -> None:
         """The operator has blocked these at the other machine."""

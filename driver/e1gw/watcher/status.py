@@ -157,7 +157,7 @@ class TrunkStatus:
         if has is not self._stands:
             stood, self._stands, self._stood = self._stood, has, None
             if stood is not has:
-                self._since, why = time.time(), self._trunk.facts().get('fault') or why
+                self._since, why = time.time(), self._trunk.facts().fault or why
                 self.tell(Connected('program') if has else Disconnected('program', why))
 
     def teller(self) -> object:

@@ -7,12 +7,15 @@ import logging
 import re
 import socket
 from abc import ABC, abstractmethod
+from collections.abc import Mapping
 from contextlib import AbstractContextManager, suppress
+from dataclasses import dataclass, field
 from typing import Any, Protocol, Sequence
 
 from e1gw_common.answers import CommandAnswer
 from e1gw_common.faults import words_of_fault
 from e1gw_common.session import whole_records
+from ..holder_state import ACTIVE, STANDBY
 from .connection import connected
 from .blocks import KeptBlocks
 from .missed import MissedReports, told_again
@@ -36,6 +39,44 @@ class WatchedPlaces(Protocol):
 
     @property
     def tell(self) -> str: ...
+
+
+@dataclass(frozen=True)
+class PairFacts:
+    """Of a trunk that two machines have: whether this one stands by; whether the standby has all, and how many seconds
+    ago it had; of a standby, why it is not fed, and which circuits are configured otherwise at the other machine."""
+
+    stands: bool
+    fed: bool
+    feed_age: float | None
+    feed_fault: str | None = None
+    differs: tuple[int, ...] = ()
+
+    @property
+    def role(self) -> str:
+        return STANDBY if self.stands else ACTIVE
+
+    def plain(self) -> dict[str, object]:
+        """As plain values of a status."""
+        its = {'feed_fault': self.feed_fault, 'differs': [*self.differs]} if self.stands else {}
+        return {'role': self.role, 'fed': self.fed, 'feed_age': self.feed_age, **its}
+
+
+@dataclass(frozen=True)
+class TrunkFacts:
+    """What a holder says of a trunk: since when it is open, or why it is not; its program's version, whom that hears,
+    and how many logs were lost; circuits that are configured otherwise once their calls end; why nothing is recorded
+    any more; what carries it, and the other machine, if there is one."""
+
+    since: float = 0.0
+    fault: str = ''
+    version: str = ''
+    senders: str = ''
+    log_losses: int = 0
+    waiting: tuple[int, ...] = ()
+    session: str | None = None
+    carried: Mapping[str, object] = field(default_factory=dict)
+    pair: PairFacts | None = None
 
 
 class WatchedTrunk(ABC):
@@ -67,9 +108,8 @@ class WatchedTrunk(ABC):
         """That of the program of now, for a replay. OSError if there is none."""
 
     @abstractmethod
-    def facts(self) -> dict[str, Any]:
-        """Since when it is open, why it is not or not recorded, its version, whom it hears and its pair, as plain
-        values."""
+    def facts(self) -> TrunkFacts:
+        """What is known of it beside its lines."""
 
     @abstractmethod
     def outage(self) -> str | None:

@@ -101,7 +101,7 @@ class TrunkWatch:
         self.status = TrunkStatus(trunk, wants.name, self.tell, self.counts, self._put_call)
         self._lines = self.status.lines
         self._program = ProgramConnection(lambda: trunk.places().control, self.status.stands, self.status.hurry,
-                                          lambda: str(trunk.facts()['fault']))
+                                          lambda: trunk.facts().fault)
         self._lines.commanded = guarded(self._program.told, WATCH)
         self._events, self._ended_calls = ReadEvents(), deque[str](maxlen=LAST)
         self.pages = TrunkPages(self._values, self.status.take_now, list(self._lines.lines.values()),
@@ -198,7 +198,8 @@ class TrunkWatch:
         self.trunk.reader.clock.rate.is_wrong = WrongRate.name in self._events.standing()
 
     def _put_call(self, line: str) -> None:
-        if self.trunk.facts()['pair'].get('role') != 'standby':
+        pair = self.trunk.facts().pair
+        if not (pair and pair.stands):
             self._ended_calls.appendleft(line)
             if self._calls:
                 self._calls.put(line)
@@ -260,19 +261,18 @@ class TrunkWatch:
 
     def _values(self) -> dict[str, Any]:
         """All that is known, as plain values."""
-        now, facts, wants = time.time(), self.trunk.facts(), self.wants
-        fault = facts['fault'] or None
-        status = self.status.values() | {
-            'name': wants.name, 'version': facts['version'], 'time': round(now, 3), 'fault': fault,
-            'senders': facts['senders'], 'log_losses': facts['log_losses'],
-            'uptime': 0.0 if fault else round(now - facts['since'], 3),
+        now, facts, wants, known = time.time(), self.trunk.facts(), self.wants, self.status.values()
+        fault = facts.fault or None
+        status: dict[str, Any] = {
+            **known, 'name': wants.name, 'version': facts.version, 'time': round(now, 3), 'fault': fault,
+            'senders': facts.senders, 'log_losses': facts.log_losses,
+            'uptime': 0.0 if fault else round(now - facts.since, 3),
             'calls': [line._asdict() for line in self.status.calls.going()],
-            **wants.files(), 'stale': self.counts.stale(), 'ended': self.ended | {'session': facts['session']},
+            **wants.files(), 'stale': self.counts.stale(), 'ended': self.ended | {'session': facts.session},
             'renewed': self._resyncs, 'alarms': self._events.alarms(), 'waiting': self._reloads.waiting(),
             'commands': [{'command': name, 'answer': answer, 'count': n}
-                         for (name, answer), n in sorted(self._done.items())]}
-        status['clock'] = self.trunk.flow() | status['clock']
-        status |= facts['carried'] | facts['pair']
+                         for (name, answer), n in sorted(self._done.items())],
+            'clock': self.trunk.flow() | known['clock'], **facts.carried, **(facts.pair.plain() if facts.pair else {})}
         for row in status['circuits']:
             n = row['circuit']
             row.update(self.counts.status(n) | {'blocked': self.blocks.kept.now.word(n),
