@@ -3,8 +3,9 @@ from __future__ import annotations
 
 import asyncio
 import inspect
+import itertools
 import time
-from typing import Callable, TypeVar
+from typing import Callable, Iterator, TypeVar
 
 SECONDS = 60.0              # of a wait, at most
 
@@ -27,6 +28,14 @@ async def eventually(holds: Callable[[], T | None], pause: float = 0.002) -> T:
         assert time.monotonic() < end, not_within(holds)
         await asyncio.sleep(pause)
     return found
+
+
+def turns(what: str) -> Iterator[int]:
+    """The turns of a wait for something that each of them brings nearer."""
+    end = time.monotonic() + SECONDS
+    for n in itertools.count():
+        assert time.monotonic() < end, f'not within {SECONDS:.0f} s: {what}'
+        yield n
 
 
 def not_within(holds: Callable[..., object]) -> str:

@@ -31,6 +31,7 @@ from e1gw.watcher.standby import NO_CERTIFICATE, NO_TRUNK, FedLog, TrunkStandby
 from e1gw.satop_numbers import PacketNumber, number_of_now
 from e1gw_common.session import MULTIFRAME, OCTETS_A_SECOND, trunk_record
 from e1gw_common.tls import context_of
+from e1gw_testing.waits import turns
 
 RECORD = MULTIFRAME / OCTETS_A_SECOND       # seconds of a record
 HOST = '127.0.0.1'
@@ -170,7 +171,9 @@ class FeedTests(support.LoopCase):
         reader, writer = await asyncio.open_connection(*self.place)
         await reader.readline()
         with self.assertLogs('e1gw.watcher.feed', 'WARNING') as told:
-            while not told.records:
+            for _ in turns('it is dropped'):
+                if told.records:
+                    break
                 for _ in range(500):
                     self.log.multiframe()
                 await asyncio.sleep(0)

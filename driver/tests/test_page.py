@@ -33,6 +33,7 @@ from e1gw.watcher.pages import EventReaders
 from e1gw_common.web import NOTHING, PageRequest
 from e1gw_testing.ports import free_port
 from e1gw.udp_tables import sockets_of
+from e1gw_testing.waits import turns
 
 EVIL = '"><script>alert(1)</script><img src=x onerror=alert(1)>\'&</td></table>'
 WELL: dict[str, Any] = {
@@ -310,7 +311,9 @@ class WebPartTests(unittest.IsolatedAsyncioTestCase):
             for seconds in 0, 7, 30:
                 self.assertIn(f'<progress value="{seconds}" max='.encode(), await page.fresh())
             drawn.set()
-            while b'<progress' in (found := await page.fresh()):
+            for _ in turns('the page is made'):
+                if b'<progress' not in (found := await page.fresh()):
+                    break
                 await asyncio.sleep(0)
         self.assertEqual((found, len(begun)), (b'<html></html>\n', 1))
         self.assertEqual(begun[0][-3:], ['--last', '60s', 'ring'])

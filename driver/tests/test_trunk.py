@@ -19,6 +19,7 @@ from .world import World, children, config_of, trunk_command
 from e1gw_tools.far_exchange import SEIZED
 from e1gw_common.session import FRAME, MULTIFRAME, trunk_record
 from e1gw_common.addresses import host_and_port
+from e1gw_testing.waits import turns
 
 FOUR = range(1, 5)
 OCTETS = bytes(range(256)) * 2
@@ -133,7 +134,9 @@ class OperatorTests(unittest.TestCase):
         support.until(lambda: bool(world.told()['clock']['stalled']))
         self.assertEqual(world.ask('seize 1'), 'seize 1: refused: the trunk is stalled')
         self.assertIn(' UTC, stalled; the other end: not heard', world.ask('status'))
-        while (said := world.ask('seize 1')) != 'seize 1: done':        # (it stalls again on a loaded machine)
+        for _ in turns('circuit 1 is seized'):          # (the trunk stalls again on a loaded machine)
+            if (said := world.ask('seize 1')) == 'seize 1: done':
+                break
             self.assertEqual(said, 'seize 1: refused: the trunk is stalled')
             world.step()
         self.assertEqual(world.known()['circuits'][0]['state'], 'seized')
@@ -152,7 +155,9 @@ class OperatorTests(unittest.TestCase):
         octets = bytearray(world.exchange.multiframe())
         octets[32::64] = b'\xff' * 8                    # bit A (ITU-T G.704, 2.3)
         world.give(bytes(octets))
-        while (said := world.ask('seize 2')) == 'seize 2: refused: the trunk is stalled':
+        for _ in turns('the trunk flows'):
+            if (said := world.ask('seize 2')) != 'seize 2: refused: the trunk is stalled':
+                break
             world.give(bytes(octets))
         self.assertEqual(said, 'seize 2: refused: the other end has no alignment')
 

@@ -27,6 +27,7 @@ from e1gw_common.session import MULTIFRAME, OCTETS_A_SECOND, packet_of
 from e1gw_testing.ports import free_port
 from e1gw_testing.service import answer_of, ask
 from e1gw.watcher.feed import TICK
+from e1gw_testing.waits import turns
 
 ADDRESSES = {'a': '127.0.0.11', 'b': '127.0.0.12'}      # of the machines
 TRUNK, SPEECH = '127.0.0.100', '127.0.0.101'            # of the trunk, wherever it is: SAToP and RTP
@@ -185,7 +186,9 @@ class PairCase(KeeperCase):
 
     def fed(self, machine: Machine) -> None:
         """The trunk goes on until a machine is fed."""
-        while machine.ask('role') != 'standby, fed':
+        for _ in turns('it is fed'):
+            if machine.ask('role') == 'standby, fed':
+                break
             self.step(4)
 
     def up_again(self) -> None:
