@@ -83,8 +83,8 @@ def put_package(its: MachineFiles, folder: Path, program: str) -> None:
     """What the package has of a trunk, and what Debian has of Python and of users."""
     for name, place in PACKAGE.items():
         put(Path(TOP, name), folder / place)
-    shutil.copytree(Path(TOP, 'driver'), folder / 'usr/lib/e1gw',
-                    ignore=shutil.ignore_patterns('__pycache__', 'tests'))
+    shutil.copytree(Path(TOP, 'driver'), folder / 'usr/lib/e1gw', dirs_exist_ok=True,
+                    ignore=shutil.ignore_patterns('__pycache__', 'tests', 'e1gw_testing'))
     put(program, folder / 'usr/bin/e1gw')
     for name in COMMANDS:
         text = re.sub('(?m)^sys.path.*', "sys.path[0] = '/usr/lib/e1gw'", Path(TOP, 'bin', name).read_text())
