@@ -327,18 +327,18 @@ def whole_records(octets: bytes) -> tuple[int, int]:
     return at, trunk
 
 
-def records_for(circuit: int, octets: bytes) -> tuple[int, int, bytes]:
-    """The same, and those of the records that concern a circuit: its own, and the trunk's. (Nothing that is given to
-    another circuit changes what becomes of this one.)"""
+def records_for(circuit: int, octets: bytes, also: Kind | None = None) -> tuple[int, int, bytes]:
+    """The same, and those of the records that concern a circuit: its own, the trunk's, and of others those of a kind.
+    (Nothing that is given to another circuit changes what becomes of this one.)"""
     at, trunk, own, since, unpack, last = 0, 0, list[bytes](), 0, HEAD.unpack_from, len(octets) - HEAD.size
     while at <= last:
-        _, its, length = unpack(octets, at)
+        kind, its, length = unpack(octets, at)
         end: int = at + HEAD.size + length
         if end > len(octets):
             break
         if not its:
             trunk += length
-        elif its != circuit:
+        elif its != circuit and kind != also:
             own.append(octets[since:at])
             since = end
         at = end

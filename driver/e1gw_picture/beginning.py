@@ -11,10 +11,10 @@ from collections.abc import Iterable, Iterator
 from contextlib import suppress
 from dataclasses import dataclass
 
+from e1gw_common.session_files import InputError, RecordedSession, kept
 from e1gw_common.lines import wait_words
 from e1gw_common.programs import program_of
-from e1gw_common.session import MULTIFRAME, records_for
-from e1gw_common.session_files import InputError, RecordedSession, kept
+from e1gw_common.session import MULTIFRAME, Kind, records_for
 from .replay import Replay
 
 MIDDLE = 'the session begins in the middle; calls that were under way show as fault or blocked until they end'
@@ -108,10 +108,11 @@ def begin_at(session: RecordedSession, place: int, circuit: int, config: str, pr
 
 
 def _of_circuit(circuit: int, octets: Iterable[bytes]) -> Iterator[tuple[bytes, int]]:
-    """The whole records that concern a circuit, many at a time, with the octets of the trunk in them."""
+    """The whole records that concern a circuit, many at a time, with the octets of the trunk in them. By the commands
+    of the others it is known who speaks."""
     held = b''
     for piece in octets:
         held += piece
-        size, trunk, records = records_for(circuit, held)
+        size, trunk, records = records_for(circuit, held, Kind.COMMAND)
         yield records, trunk
         held = held[size:]

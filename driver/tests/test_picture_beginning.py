@@ -16,7 +16,7 @@ from e1gw_picture.beginning import begin
 from e1gw_picture.facts import Facts
 from e1gw_picture.main import gathered
 from e1gw_picture.why import finding_lines, last_facts
-from e1gw_common.session import OCTETS_A_SECOND, Kind, trunk_record
+from e1gw_common.session import FRAME, OCTETS_A_SECOND, Kind, trunk_record
 
 
 BEGIN = 1_800_000_000       # 2027-01-15 08:00:00 UTC
@@ -175,3 +175,22 @@ class WhyTests(RingCase):
         self.assertEqual((good in lines, others[-1]), (False, good))
         self.assertRegex('\n'.join(others), r'circuit 4: .* discarded as NotOpen: .*\n    harmless: the sender speaks ')
         self.assertFalse([line for line in others if 'circuit 3' in line])
+
+    def test_a_call_that_is_sent_back(self) -> None:
+        """A sender of the other law, whom the exchange sends back, beside a call that reads like the law of the trunk,
+        and that is begun in what is looked at: `law` is right."""
+        made, mu = MadeSession(12.0, {n: {'prefill': 320} for n in (3, 4)}, speech=coded('A')), coded('mu')
+
+        def back(now: float, octets: bytearray) -> None:
+            at = round(now * 8000) % (len(mu) - 16)
+            octets[3::FRAME] = mu[at:at + 16]
+        made.call(3, 0.1, 11.8, 0.1)
+        made.call(4, 3.1, 11.8, 0.1)
+        made.change = back
+        self.keep(made.plus(PictureSender(3, 0.3, 11.8, payloads=packets(mu))), 3.0)
+        last = sorted(os.path.join(self.ring, name) for name in os.listdir(self.ring) if name.endswith('.e1gw'))[-1]
+        os.utime(last, (BEGIN + 12.0, BEGIN + 12.0))
+        with mock.patch.dict(os.environ, E1GW=self.program):
+            lines = '\n'.join(finding_lines(last_facts(self.ring, 3, 5.9), 3))
+        self.assertIn('the datagrams received read like mu-law', lines)
+        self.assertNotIn('the time slot', lines)
