@@ -59,6 +59,16 @@ def can_send(ends: Sequence[str]) -> bool:
     return False
 
 
+def is_here(far: str) -> bool:
+    """Whether the far end has an address of this machine, whose packets then may be our own."""
+    host, _ = host_and_port(far)
+    with socket.socket(socket.AF_INET6 if ':' in host else socket.AF_INET, socket.SOCK_DGRAM) as line:
+        with suppress(OSError):
+            line.bind((host, 0))
+            return True
+    return False
+
+
 def ends_of(text: str) -> tuple[tuple[str, int], tuple[str, int]]:
     """LOCAL:PORT,PEER:PORT, or ValueError."""
     local, comma, peer = text.partition(',')

@@ -50,6 +50,7 @@ class SatopEndTests(unittest.TestCase):
     def test_an_address_that_is_not_here(self) -> None:
         for near, can in ('127.0.0.9', True), ('192.0.2.9', False):
             self.assertEqual(satop.can_send([f'{near}:5000', '127.0.0.1:5001', '--size']), can, near)
+            self.assertEqual(satop.is_here(f'{near}:5000'), can, near)
 
     def test_counts(self) -> None:
         self.assertEqual(counts_of('satop received=1000 sent=999 malformed_short=0'),

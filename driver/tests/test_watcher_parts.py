@@ -2,6 +2,7 @@
 from __future__ import annotations
 
 import asyncio
+import json
 import os
 import unittest
 from contextlib import closing
@@ -112,6 +113,21 @@ class SaidFileTests(support.FolderCase):
         self.assertEqual([*its.news()], [])
         its.close()
         later.close()
+
+    def test_datagrams_without_a_socket(self) -> None:
+        """As many as packets are told, unless the far end is at this machine: they may be our own."""
+        for far, is_told in ('192.0.2.1:5001', True), ('127.0.0.1:5001', False):
+            self.write('satop', '')
+            self.write('satop.ends', json.dumps({'words': ['127.0.0.1:5000', far, '--size', '256']}))
+            told = list[Event]()
+            its = SaidLine(self.path('said'), self.path('satop'), (), None, told.append)
+            with mock.patch('e1gw.watcher.said.unheard', side_effect=(5000, 6000)):
+                for ticks in 1000, 2000:
+                    with open(self.path('satop'), 'a', encoding='ascii') as file:
+                        file.write(f'satop received=0 ticks={ticks}\n')
+                    its.look()
+            self.assertEqual(any('source port' in each.words() for each in told), is_told, far)
+            its.close()
 
     def test_of_the_line(self) -> None:
         """CRC-4 and packets are counted and told; totals are not, and the rest is for the operator."""

@@ -9,7 +9,8 @@ from typing import Any, Iterator, Sequence
 
 from ..crc4 import Crc4, Crc4Note, counts_in
 from ..events import Event, SatopChanged, Tell
-from ..satop import SatopSeen, counts_of, status_of
+from ..satop import SatopSeen, counts_of, is_here, status_of
+from ..satop_numbers import begun_in
 from ..slots import Slots, SlotsNote
 from ..udp_tables import unheard
 from .process import AT_END
@@ -31,14 +32,14 @@ class SaidFile:
     """Such a file, which is read line by line."""
 
     def __init__(self, path: str, note: SaidNote) -> None:
-        self._path, self.note, self._file = path, note, -1
+        self.path, self.note, self._file = path, note, -1
 
     def news(self) -> Iterator[str | None]:
         """The whole lines that were said since; None where another process begins."""
         yield from self._lines()
         with suppress(FileNotFoundError):
-            if os.stat(self._path).st_ino != self.note.inode or self._file < 0:
-                yield from self._follow(os.open(self._path, os.O_RDONLY | os.O_CLOEXEC))
+            if os.stat(self.path).st_ino != self.note.inode or self._file < 0:
+                yield from self._follow(os.open(self.path, os.O_RDONLY | os.O_CLOEXEC))
 
     def _follow(self, file: int) -> Iterator[str | None]:
         """Another file, or that of a watcher before this one."""
@@ -119,10 +120,15 @@ class SaidLine:
 
     def _take_counts(self, counts: dict[str, int]) -> None:
         """What `e1gw satop` has counted."""
-        before, self._seen = self._seen, self._seen.then(counts, unheard())
+        before, self._seen = self._seen, self._seen.then(counts, self._unheard())
         for each in (*before.holding, *self._seen.holding):
             if (each in before.holding) is not (on := each in self._seen.holding):
                 self._tell(SatopChanged(each.words, on))
+
+    def _unheard(self) -> int:
+        """Datagrams that no socket takes. (Those of a far end at this machine may be our own.)"""
+        _, far, *_ = begun_in(self._satop.path).get('words') or ('', '')
+        return unheard() if far and not is_here(far) else 0
 
     def ended(self) -> None:
         """The line was closed."""
