@@ -24,7 +24,7 @@ _e1gw_options() {
     trunk)
       echo '--config --load --save --align --control --crc4 --end --live --log --repeat' \
         '--seizure-wait --senders --slots --sockets --tell --totals --help' ;;
-    satop) echo '--size --jitter --rtp --sequence --fill --clock --help' ;;
+    satop) echo '--from --size --jitter --rtp --sequence --fill --clock --help' ;;
     '') echo '--help --version' ;;
   esac
 }
@@ -44,7 +44,7 @@ _e1gw() {
     --law | --codec | --ptime | --senders | --fill | --clock)
       mapfile -t COMPREPLY < <(compgen -W "$(_e1gw_values "$prev")" -- "$cur")
       return ;;
-    --payload | --ssrc | --sequence | --timestamp | --repeat | --seizure-wait | --size | --jitter | --rtp | --end | \
+    --from | --payload | --ssrc | --sequence | --timestamp | --repeat | --seizure-wait | --size | --jitter | --rtp | --end | \
       --sockets)
       return ;;
     --config | --load | --save | --control | --log | --reports | --tell)

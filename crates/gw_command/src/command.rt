@@ -274,6 +274,7 @@ fn satop_options<'a>(found: &ArgMatches<'a>) -> Option<SatopOptions<'a>> {
     Some(SatopOptions {
         local: found.get_str("local")?,
         peer: found.get_str("peer")?,
+        from: found.get_str("from"),
         size: found.get_one("size")?,
         jitter: found.get_one("jitter")?,
         rtp: found.get_one("rtp"),

@@ -387,6 +387,14 @@ const NUMBER: OptionRow = OptionRow {
     ..OPTION
 };
 
+const FROM: OptionRow = OptionRow {
+    name: "from",
+    value_names: &["HOST:PORT"],
+    kind: Kind::Text,
+    help: "Where packets come from, if not from PEER",
+    ..OPTION
+};
+
 const FILL: OptionRow = OptionRow {
     name: "fill",
     kind: Kind::Named(&["again", "ones"]),
@@ -446,7 +454,7 @@ const OF_TRUNK: &[OptionRow] = &[
 ];
 
 // The options of an emulated circuit.
-const OF_SATOP: &[OptionRow] = &[LOCAL, PEER, SIZE, JITTER, RTP, NUMBER, FILL, CLOCK];
+const OF_SATOP: &[OptionRow] = &[LOCAL, PEER, FROM, SIZE, JITTER, RTP, NUMBER, FILL, CLOCK];
 
 const SUBCOMMANDS: [Subcommand; 9] = [
     Subcommand {

@@ -176,6 +176,8 @@ pub struct SatopOptions<'a> {
     pub local: &'a str,
     /// The host and the port of the far end.
     pub peer: &'a str,
+    /// The host and the port from which it sends, if they are others.
+    pub from: Option<&'a str>,
     /// The octets of a packet, 32 to 1,280.
     pub size: u16,
     /// How many later packets are waited for, 0 to 500.

@@ -84,17 +84,20 @@ fn address_of(net: &impl Net, text: &str) -> io::Result<SocketAddr> {
     }
 }
 
-/// Opens a socket at the address of `local` that takes datagrams from the address of `peer` alone, which is
-/// returned too; each text is a host and a port. The error is the system's, or says that one has no address.
+/// Opens a socket at the address of `local` that takes datagrams from the address of `from` alone, and returns
+/// it with that of `peer`; each text is a host and a port. The error is the system's, or says that one has no
+/// address.
 pub fn open_socket<S: Socket>(
     net: &impl Net,
     local: &str,
     peer: &str,
+    from: &str,
 ) -> io::Result<(S, SocketAddr)> {
     let address = address_of(net, peer)?;
+    let sender = address_of(net, from)?;
     let here = address_of(net, local)?;
     let mut socket = S::bind(net, here)?;
     socket.make_room(ROOM);
-    socket.connect(address)?;
+    socket.connect(sender)?;
     Ok((socket, address))
 }

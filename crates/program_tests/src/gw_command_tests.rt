@@ -51,6 +51,7 @@ const CRC4: Crc4Options<'static> = Crc4Options {
 const SATOP: SatopOptions<'static> = SatopOptions {
     local: "a",
     peer: "b",
+    from: None,
     size: 256,
     jitter: 4,
     rtp: None,
@@ -249,8 +250,9 @@ const FILTERS_AND_CIRCUITS: [(&str, Request<'static>); 11] = [
     ),
     ("satop a b", Request::Satop(SATOP)),
     (
-        "satop a b --size 288 --jitter 5 --rtp 97 --sequence 1234",
+        "satop a b --from c --size 288 --jitter 5 --rtp 97 --sequence 1234",
         Request::Satop(SatopOptions {
+            from: Some("c"),
             size: 288,
             jitter: 5,
             rtp: Some(97),

@@ -20,7 +20,8 @@ pub(crate) fn open_far_end(
     rt: &impl Net,
     options: &SatopOptions<'_>,
 ) -> Result<(SystemSocket, SocketAddr), ProgramFault> {
-    match open_socket(rt, options.local, options.peer) {
+    let from = options.from.unwrap_or(options.peer);
+    match open_socket(rt, options.local, options.peer, from) {
         Ok(opened) => Ok(opened),
         Err(error) => Err(ProgramFault::of(&error, ProgramFault::FarEnd)),
     }
