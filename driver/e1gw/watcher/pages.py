@@ -22,7 +22,7 @@ TOLD, MOST_READERS = 1.0, 256       # seconds between two messages to those who 
 MOST_HELD, AT_ONCE = 32 << 10, 16   # octets that wait for one of them; how many are told before others have their turn
 FRESH, DRAWN = 5.0, 60.0            # seconds in which nobody gets another picture, and for one to be drawn
 NICE = 15                           # of the process that draws
-WAITED, PATIENCE = 5.0, 0.5         # seconds for which somebody waits for it, and for the answer of another trunk
+WAITED, PATIENCE = 1.0, 0.5         # seconds for which somebody waits for it, and for the answer of another trunk
 WHOLE = b'</html>\n'
 DRAWING = "default-src 'none'; style-src 'unsafe-inline'"       # what one that is drawn may load
 
