@@ -60,6 +60,7 @@ CALLS: dict[str, list[str]] = {
         [*LOCKED, *door('control'), 'pair', *READ_CONFIG, *logged('RDONLY'), 'open old RDONLY',
          *logged('RDONLY'), *logged('RDWR|CREAT'), *UDP, *door('tell'), 'run', *NEW_STATE],
     'satop 127.0.0.1:near 127.0.0.1:far': [*UDP, 'connect 127.0.0.1:far', 'run'],
+    'satop 127.0.0.1:near 127.0.0.1:far --from 127.0.0.1:near': [*UDP, 'connect 127.0.0.1:near', 'run'],
 }
 
 

@@ -44,8 +44,8 @@ _e1gw() {
     --law | --codec | --ptime | --senders | --fill | --clock)
       mapfile -t COMPREPLY < <(compgen -W "$(_e1gw_values "$prev")" -- "$cur")
       return ;;
-    --from | --payload | --ssrc | --sequence | --timestamp | --repeat | --seizure-wait | --size | --jitter | --rtp | --end | \
-      --sockets)
+    --from | --payload | --ssrc | --sequence | --timestamp | --repeat | --seizure-wait | --size | --jitter | --rtp | \
+      --end | --sockets)
       return ;;
     --config | --load | --save | --control | --log | --reports | --tell)
       compopt -o filenames 2> /dev/null

@@ -26,8 +26,8 @@ SILENT = SatopCondition('silent', 'ticks', 'packets missing')
 BITS = (SatopCondition('far_fault', 'with_l', 'line fault at the far end (bit L)'),
         SatopCondition('far_silent', 'with_r', 'packets missing at the far end (bit R)'))
 # (The socket is connected, so that the kernel gives packets of another sender to no socket.)
-STRANGE = SatopCondition('other_source', 'ticks', 'perhaps packets from another source port or address than those of '
-                         'the far end: as many datagrams come that no socket takes')
+STRANGE = SatopCondition('other_source', 'ticks', 'perhaps packets from another source port (from=) or address than '
+                         'those of the far end: as many datagrams come that no socket takes')
 # Packets that come and are refused, with the option of --satop that has to be as the far end has it.
 REFUSED = (SatopCondition('other_size', 'malformed_other_size', 'packets of another size (size=)'),
            SatopCondition('other_header', 'malformed_no_rtp_header', 'packets without RTP header (rtp=)'),

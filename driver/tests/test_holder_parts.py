@@ -406,8 +406,9 @@ class HolderOptionsTests(unittest.TestCase):
         self.assertEqual((found.name, found.folder), ('trunk', f'/run/x/trunk-{os.getuid()}'))
         self.assertEqual(found.words, ('--repeat', '2', '--align', '--seizure-wait', '400'))
         self.assertEqual((found.senders, found.line.trunk, found.line.reopens), ('host', 'p', False))
-        found = options_of(self.options('--satop', '127.0.0.1:1,h:2,jitter=8', '--crc4', '--name', 'n'), {})
-        self.assertEqual(found.line.satop, ('127.0.0.1:1', 'h:2', '--size', '256', '--jitter', '8'))
+        found = options_of(self.options('--satop', '127.0.0.1:1,h:2,jitter=8,from=h:3', '--crc4', '--name', 'n'), {})
+        self.assertEqual(found.line.satop,
+                         ('127.0.0.1:1', 'h:2', '--size', '256', '--jitter', '8', '--from', 'h:3'))
         self.assertEqual((found.words, found.line.crc4), (('--crc4', '--live'), True))
         found = options_of(self.options('--in', 'a', '--out', 'a', '--', '--json', '-'), {})
         self.assertEqual((found.line.trunk, found.watch), ('a', ('--json', '-')))
@@ -420,6 +421,7 @@ class HolderOptionsTests(unittest.TestCase):
                 (['--http', 'h:1'], '--http: no option of e1gw-trunk'),
                 (['--unix'], 'wants a value'), (['--unix', 'a', '--repeat', '9'], '0 to 8'),
                 (['--unix', 'a', '--senders', 'x'], 'any, first, host, peer'),
+                (['--satop', 'a:1,b:2,from=b'], 'no HOST:PORT'),
                 (['--satop', 'a:1,b:2,x=1'], 'x=1'), (['--satop', 'a:1'], 'no HOST:PORT'),
                 (['--satop', 'a:1,b:2,size=33'], 'multiple of 32'),
                 (['--satop', 'a:1,b:2,rtp=128'], 'rtp= .* 0 to 127'),

@@ -84,9 +84,9 @@ fn address_of(net: &impl Net, text: &str) -> io::Result<SocketAddr> {
     }
 }
 
-/// Opens a socket at the address of `local` that takes datagrams from the address of `from` alone, and returns
-/// it with that of `peer`; each text is a host and a port. The error is the system's, or says that one has no
-/// address.
+/// Opens a socket at the address of `local` that takes datagrams from the address of `from` alone, and
+/// returns it with that of `peer`; each text is a host and a port. The error is the system's, or says that
+/// one has no address.
 pub fn open_socket<S: Socket>(
     net: &impl Net,
     local: &str,

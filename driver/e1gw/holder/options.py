@@ -212,8 +212,11 @@ def satop_of(text: str) -> tuple[str, ...]:
         asked[name] = value
         if name == 'clock' and value in CLOCKS:
             continue
+        if name == 'from':
+            host_and_port(value)
+            continue
         if name not in SATOP:
-            raise OptionsRefused(f'--satop has {each}, and knows {", ".join(SATOP)}, and clock= packets or own')
+            raise OptionsRefused(f'--satop has {each}, and knows {", ".join(SATOP)}, from=, and clock= packets or own')
         its = SATOP[name]
         if not (value.isascii() and value.isdecimal() and int(value) in its):
             raise OptionsRefused(f'{name}= of --satop is {its[0]} to {its[-1]}' + (
