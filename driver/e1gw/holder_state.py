@@ -4,6 +4,7 @@ from __future__ import annotations
 
 import json
 import os
+import zlib
 from contextlib import suppress
 from typing import NamedTuple
 
@@ -78,6 +79,15 @@ def start_of(pid: int) -> int:
     """When a process was started, in ticks since the machine was; 0 if it is not seen."""
     fields = fields_of(pid)
     return int(fields[STARTED]) if fields else 0
+
+
+def folder_in_memory(folder: str) -> str:
+    """Where the folder of a trunk is once nobody may write there (a disk has failed). Its name says which it was: there
+    may be another trunk of that name."""
+    memory, usual = os.path.realpath(MEMORY), os.path.realpath(folder)
+    if os.path.dirname(usual) == memory:
+        return folder
+    return os.path.join(memory, f'{os.path.basename(usual)}-{zlib.crc32(os.fsencode(usual)):08x}')
 
 
 class TrunkPlaces(NamedTuple):

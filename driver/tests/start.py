@@ -29,5 +29,5 @@ def start(name: str) -> NoReturn:
     limits.put_given()
     hand_clock.put_given()
     limits.put({f'{module}.MEMORY': os.path.dirname(sys.argv[0])
-                for module in ('watcher.options', 'holder.options', 'holder.starting')})
+                for module in ('watcher.options', 'holder.options', 'holder_state')})
     sys.exit(command.main())

@@ -19,7 +19,7 @@ from unittest import mock
 from . import support
 from .support import FolderCase
 from .test_card import FakeChannel
-from e1gw import lock
+from e1gw import holder_state, lock
 from e1gw.holder import ending, log, starting
 from e1gw.holder.card import Card
 from e1gw.holder.decisions import Deaths, Decision, EndFault, NextAct
@@ -459,27 +459,37 @@ class HeldFolderTests(FolderCase):
         """Another one is taken if that is for good; else it is tried again."""
         options = mock.Mock(folder=self.path('disk/trunk-0'))
         holder = mock.Mock(spec=['folder', 'options'], options=options, folder=options.folder)
-        with mock.patch.object(starting, 'MEMORY', self.path('memory')), mock.patch.object(starting, 'say') as said:
+        with mock.patch.object(holder_state, 'MEMORY', self.path('memory')), \
+                mock.patch.object(starting, 'say') as said:
             starting.make_folder(holder)
             self.assertEqual(holder.folder, options.folder)
             with mock.patch('os.makedirs', side_effect=OSError(5, 'x')), self.assertRaises(OSError):
                 starting.make_folder(holder)
             with mock.patch('os.access', lambda path, how: path.startswith(self.path('memory'))):
                 starting.make_folder(holder)
-        self.assertEqual((holder.folder, len(said.mock_calls)), (self.path('memory/trunk-0'), 1))
-        self.assertTrue(os.path.isdir(self.path('memory/trunk-0/log')))
+            memory = holder_state.folder_in_memory(options.folder)
+        self.assertEqual((holder.folder, len(said.mock_calls)), (memory, 1))
+        self.assertTrue(os.path.isdir(f'{memory}/log'))
 
+    def test_two_trunks_of_one_name(self) -> None:
+        """Neither goes where the other is; and one that is in memory stays."""
+        with mock.patch.object(holder_state, 'MEMORY', self.path('memory')):
+            folders = [self.path('memory/trunk-0'), self.path('a/trunk-0'), self.path('b/trunk-0')]
+            there = [*map(holder_state.folder_in_memory, folders)]
+        self.assertEqual((len({*there}), there[0]), (3, folders[0]))
+        self.assertEqual({os.path.dirname(each) for each in there}, {self.path('memory')})
 
     def test_a_log_that_has_no_room(self) -> None:
         """It is put back in memory, if its folder is not there already; else it is tried again."""
         options = mock.Mock(folder=self.path('disk/trunk-0'))
         holder = mock.Mock(spec=['folder', 'options', 'log'], options=options, folder=options.folder)
         holder.log.put_back = mock.Mock(side_effect=[OSError(28, 'x'), True, OSError(28, 'x')])
-        with mock.patch.object(starting, 'MEMORY', self.path('memory')), mock.patch.object(starting, 'say') as said:
+        with mock.patch.object(holder_state, 'MEMORY', self.path('memory')), \
+                mock.patch.object(starting, 'say') as said:
+            memory = holder_state.folder_in_memory(options.folder)
             starting.put_back_log(holder)
             with self.assertRaises(OSError):
                 starting.put_back_log(holder)
-        memory = self.path('memory/trunk-0')
         self.assertEqual([each.args[0] for each in holder.log.put_back.mock_calls],
                          [f'{options.folder}/log', f'{memory}/log', f'{memory}/log'])
         self.assertEqual((holder.folder, len(said.mock_calls)), (memory, 2))

@@ -15,6 +15,7 @@ from . import support
 from .holders import HolderCase
 from .support import SECONDS
 from .world import children, words_of
+from e1gw import holder_state
 from e1gw.holder_state import TrunkPlaces
 
 
@@ -193,8 +194,9 @@ class HolderDeathTests(HolderCase):
     def test_a_folder_that_takes_no_writes(self) -> None:
         """The next program goes on with the log in memory."""
         name = f'scene{os.getpid()}'
-        self.places, other = (TrunkPlaces(os.path.join(within, f'{name}-{os.getuid()}')) for within in (
-            self.memory, os.path.dirname(support.launcher('trunk'))))     # (tests/start)
+        self.places = TrunkPlaces(os.path.join(self.memory, f'{name}-{os.getuid()}'))
+        with mock.patch.object(holder_state, 'MEMORY', os.path.dirname(support.launcher('trunk'))):     # (tests/start)
+            other = TrunkPlaces(holder_state.folder_in_memory(self.places.folder))
         self.control = self.places.control
         refuses = f'case "$*" in *" {self.places.log} "*) echo cannot open the log of the trunk >&2; exit 1;; esac'
         program = self.scripted(f'if test -e {self.path("full")}; then {refuses}; fi')

@@ -5,9 +5,10 @@ import os
 from typing import Callable, Mapping, NamedTuple
 
 from e1gw_common.addresses import host_and_port
+from ..holder_state import MEMORY, folder_in_memory
 from ..trunks import Stream, open_tcp, open_unix
 
-NAME, MEMORY = 'e1gw-trunk', '/dev/shm'
+NAME = 'e1gw-trunk'
 MOST_PATH, LONGEST = 107, 'program.new'     # octets of the path of a socket; the longest one in the folder
 HELP = f'''usage: {NAME} --config FILE (--in FILE --out FILE | --unix PATH | --tcp HOST:PORT | --satop ENDS) [OPTION..]
                   [-- WATCH_OPTION..]
@@ -110,8 +111,9 @@ def _options_of(asked: Mapping[str, str], watch: list[str], around: Mapping[str,
         raise OptionsRefused(f'--name {name!r} is no name of a file')
     within = asked['folder'] or around.get('RUNTIME_DIRECTORY', '').partition(':')[0] or MEMORY
     folder = os.path.join(os.path.abspath(within), f'{name}-{os.getuid()}')
-    if len(os.fsencode(f'{folder}/{LONGEST}')) > MOST_PATH:
-        raise OptionsRefused(f'{folder}/{LONGEST}: a path of a socket has {MOST_PATH} octets at most')
+    for path in (f'{each}/{LONGEST}' for each in (folder, folder_in_memory(folder))):
+        if len(os.fsencode(path)) > MOST_PATH:
+            raise OptionsRefused(f'{path}: a path of a socket has {MOST_PATH} octets at most')
     senders = asked['senders'] or 'host'
     if senders not in SENDERS:
         raise OptionsRefused(f'--senders is {", ".join(SENDERS)}')

@@ -11,10 +11,10 @@ from typing import TYPE_CHECKING
 
 from e1gw_common.fault_words import name_of_process, words_of_fault
 from e1gw_common.writers import put_file
+from ..holder_state import folder_in_memory
 from .decisions import FIRST_PAUSE
 from .journal import Severity, say
 from .log import has_log, user_of
-from .options import MEMORY
 from .program import HeldProgram, ProgramWants
 from .version import Version
 
@@ -83,7 +83,7 @@ def make_folder(holder: Holder) -> None:
 
 def move_folder(holder: Holder, why: str) -> bool:
     """Another folder, in memory, unless it is that already: whether it has changed."""
-    other = os.path.join(MEMORY, os.path.basename(holder.options.folder))
+    other = folder_in_memory(holder.options.folder)
     if holder.folder == other:
         return False
     say(Severity.ERROR, f'{why}: the folder of the trunk is {other} from now on')

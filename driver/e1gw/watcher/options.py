@@ -9,7 +9,7 @@ from ipaddress import ip_address
 from e1gw_common.addresses import host_and_port
 from e1gw_common.faults import checked, number
 from e1gw_common.tls import add_tls, is_exposed
-from ..holder_state import MEMORY
+from ..holder_state import MEMORY, folder_in_memory
 from ..recording_ring import seconds_of
 from .recordings import RecordingWants
 from .watch import WatchWants
@@ -86,8 +86,7 @@ def folder_of(asked: argparse.Namespace) -> str:
 def folder_now(asked: argparse.Namespace) -> str:
     """Where the folder is: a holder moves it into memory if it takes no writes."""
     usual = folder_of(asked)
-    other = os.path.join(os.path.realpath(MEMORY), os.path.basename(usual))
-    return max((usual, other), key=lambda folder: (modified_at(f'{folder}/holder'), folder == usual))
+    return max((usual, folder_in_memory(usual)), key=lambda folder: (modified_at(f'{folder}/holder'), folder == usual))
 
 
 def modified_at(path: str) -> float:
