@@ -8,16 +8,24 @@ import socket
 import subprocess
 import sys
 from typing import Any
+from unittest import mock
 
 from . import limits, support
 from .keepers import KeeperCase
 from .manager import Manager
 from .support import SECONDS
-from e1gw.holder_state import HolderState, state_in
+from e1gw import holder_state
+from e1gw.holder_state import HolderState, TrunkPlaces, state_in
 
 LONG = {f'holder.{name}': limits.LONG for name in (
     'starting.START', 'starting.RELOADED', 'starting.OLD', 'starting.LEFT', 'ending.GRACE', 'job.SECONDS',
     'job.PATIENCE', 'store.HEARD', 'store.GRACE')}
+
+
+def places_in_memory(places: TrunkPlaces) -> TrunkPlaces:
+    """Where the folder of a trunk is once it takes no writes."""
+    with mock.patch.object(holder_state, 'MEMORY', os.path.dirname(support.launcher('trunk'))):     # (tests/start)
+        return TrunkPlaces(holder_state.folder_in_memory(places.folder))
 
 
 class HolderCase(KeeperCase):

@@ -12,10 +12,9 @@ import sys
 from unittest import mock
 
 from . import support
-from .holders import HolderCase
+from .holders import HolderCase, places_in_memory
 from .support import SECONDS
 from .world import children, words_of
-from e1gw import holder_state
 from e1gw.holder_state import TrunkPlaces
 
 
@@ -195,8 +194,7 @@ class HolderDeathTests(HolderCase):
         """The next program goes on with the log in memory."""
         name = f'scene{os.getpid()}'
         self.places = TrunkPlaces(os.path.join(self.memory, f'{name}-{os.getuid()}'))
-        with mock.patch.object(holder_state, 'MEMORY', os.path.dirname(support.launcher('trunk'))):     # (tests/start)
-            other = TrunkPlaces(holder_state.folder_in_memory(self.places.folder))
+        other = places_in_memory(self.places)
         self.control = self.places.control
         refuses = f'case "$*" in *" {self.places.log} "*) echo cannot open the log of the trunk >&2; exit 1;; esac'
         program = self.scripted(f'if test -e {self.path("full")}; then {refuses}; fi')

@@ -15,7 +15,7 @@ import urllib.request
 from typing import Any, Callable
 
 from . import limits, support
-from .holders import HolderCase
+from .holders import HolderCase, places_in_memory
 from .keepers import CIRCUITS
 from .support import SECONDS, octets_in
 from e1gw_tools.far_exchange import IDLE
@@ -196,9 +196,8 @@ class WatcherShowsTests(WatcherCase):
     def test_of_a_folder_that_moves(self) -> None:
         """It ends, and the next one is where the holder is; it ends with that, too."""
         name = f'moves{os.getpid()}'
-        usual, other = (TrunkPlaces(os.path.join(within, f'{name}-{os.getuid()}')) for within in (
-            self.memory, os.path.dirname(support.launcher('trunk'))))     # (tests/start)
-        self.places, self.control = usual, usual.control
+        self.places = usual = TrunkPlaces(os.path.join(self.memory, f'{name}-{os.getuid()}'))
+        self.control, other = usual.control, places_in_memory(usual)
         refuses = f'case "$*" in *" {usual.log} "*) echo cannot open the log of the trunk >&2; exit 1;; esac'
         program = self.scripted(f'if test -e {self.path("full")}; then {refuses}; fi')
         self.begins('--name', name, '--program', program)
