@@ -149,7 +149,7 @@ def removed() -> str:
     alarm = until(lambda: pair.west.transport().get('red') == 1, 'the west has RED')
     until(lambda: not pair.east.status().get('trunk_up', True), 'the east has no trunk')
     asks(pair.west.said('card: RED alarm: '), 'the west says nothing of RED')
-    inside.has_all(pair.east.service.said(), 'the card is gone')
+    inside.has_all(pair.east.service.printed(), 'the card is gone')
     refusal = pair.west.service.ask('seize 1')
     time.sleep(3)
     inside.give_back(1, card)
@@ -197,7 +197,7 @@ def alarms() -> str:
         pair.are_heard(BACK)
     asks(pair.are_answered(), f'{pair.west.states()}, {pair.east.states()}')
     asks(west.programs() == program, 'an alarm has ended the program of the west')
-    inside.has_all(west.service.said() + pair.east.service.said(), 'card: [A-Z ]+ alarm')
+    inside.has_all(west.service.printed() + pair.east.service.printed(), 'card: [A-Z ]+ alarm')
     asks(max(shares) < 1.5 * shares[0], f'the program has {shares} of a core, at first without an alarm')
     return f'the program has {100 * max(shares):.1f} % of a core at most, {100 * shares[0]:.1f} % without an alarm'
 
@@ -223,7 +223,7 @@ def slips() -> str:
         inside.tell(0, 0, count=FIRST)
         numbers = range(FIRST, FIRST + len(COUNTS))
         until(lambda: [west.transport().get(name) for name in COUNTS] == [*numbers], 'the counts', found=west.transport)
-        inside.has_all(east.service.said() + ask(west.service.control, b'status'), '(card: span|slot)')
+        inside.has_all(east.service.printed() + ask(west.service.control, b'status'), '(card: span|slot)')
         inside.tell(0, 0)
     asks(pair.are_answered(), f'{west.states()}, {east.states()}')
     return f'slot 16 is found again, thirty calls stay; {len(COUNTS)} counts, each under its name'
@@ -249,7 +249,7 @@ def unloaded() -> str:
     inside.take_out()
     asks(not Path(DEVICES[0]).exists(), 'the channel is still there')
     time.sleep(1)
-    inside.has_all(pair.west.service.said(), '/dev/dahdi/1: No such file')
+    inside.has_all(pair.west.service.printed(), '/dev/dahdi/1: No such file')
     inside.load()
     took = max(until(site.transport_is_open, f'{site.name} has its card again', BACK) for site in pair.sites)
     pair.are_heard(BACK)

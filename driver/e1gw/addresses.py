@@ -24,7 +24,7 @@ class HiddenAddresses:
                 if not _is_address(name) and name != 'localhost':
                     self._hidden(name)
 
-    def without(self, text: str) -> str:
+    def hide_in(self, text: str) -> str:
         """A text without them."""
         for name in sorted((name for name in self._words if not _is_address(name)), key=len, reverse=True):
             text = re.sub(rf'(?<![\w.-]){re.escape(name)}(?![\w-])', self._words[name], text)

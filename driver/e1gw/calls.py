@@ -75,7 +75,7 @@ class CallLog:
         """These are the counts from now on."""
         self._counts = counts
 
-    def took(self, event: LineChanged) -> str:
+    def on_state_change(self, event: LineChanged) -> str:
         """A change of a line's state. The id of the call that it is of, if it is of one."""
         circuit, was, state, unwatched = event.circuit, event.was, event.state, bool(event.unwatched)
         if was not in IN_CALL and state in IN_CALL:
@@ -84,10 +84,10 @@ class CallLog:
         if call and state is State.ANSWERED and call.answered is None:
             call.answered = self._clock()
         if call and state not in IN_CALL:
-            self._end(call, self._unwatched(call) if unwatched else self._who(call, was, state))
+            self._end(call, self._end_cause_unseen(call) if unwatched else self._ended_by(call, was, state))
         return self._id(call) if call and self.life else ''
 
-    def going(self) -> list[CallLine]:
+    def open_calls(self) -> list[CallLine]:
         """The calls that have not ended: their lines up to now."""
         return [self._line(replace(call, codec=self._lines[n].codec), self._now(n)) for n, call in self._calls.items()]
 
@@ -101,14 +101,14 @@ class CallLog:
         self._calls[circuit] = CallRecord(circuit, seized, line.unacknowledged,
                                           number=line.seizures if seized is not None else 0)
 
-    def begun(self, life: str) -> None:
+    def on_session_start(self, life: str) -> None:
         """The state of all lines is known again: there may be calls that nobody reported, and counts from 0. `life`
         names the count of calls of each line."""
         self.life = life
         for n, line in self._lines.items():
             call = self._calls.get(n)
             if call and (line.state not in IN_CALL or 0 < call.number < line.seizures):
-                self._end(call, self._unwatched(call))          # (of the watcher before this one)
+                self._end(call, self._end_cause_unseen(call))          # (of the watcher before this one)
             elif call:
                 call.number, call.counts = call.number or line.seizures, None
             if line.state in IN_CALL and n not in self._calls:
@@ -122,17 +122,17 @@ class CallLog:
             now = self._now(n)
             self._before[n] = {word: min(self._before.get(n, now).get(word, 0), count) for word, count in now.items()}
 
-    def left(self) -> None:
+    def on_disconnect(self) -> None:
         """Nobody tells any more."""
         for n, call in self._calls.items():
             call.codec, call.counts = self._lines[n].codec, self._now(n)
 
-    def _unwatched(self, call: CallRecord) -> str:
+    def _end_cause_unseen(self, call: CallRecord) -> str:
         """Who ended a call while nobody told: a reload begins a circuit that is configured otherwise as new."""
         is_new = is_another_gateway(call.counts or {}, self._now(call.circuit))
         return 'reload' if is_new and call.circuit in self.changed else 'unwatched'
 
-    def _who(self, call: CallRecord, was: State, state: State) -> str:
+    def _ended_by(self, call: CallRecord, was: State, state: State) -> str:
         """Who ended a call: the one that hung up first."""
         line = self._lines[call.circuit]
         if state is State.FAULT:
@@ -181,7 +181,7 @@ class CallLog:
 
     def _now(self, circuit: int) -> dict[str, int]:
         counts = self._counts.circuits[circuit]
-        return {**counts.counts(), 'lost': counts.numbers.lost, 'discarded': counts.discarded()}
+        return {**counts.counts(), 'lost': counts.numbers.count_lost, 'discarded': counts.discarded()}
 
     def _line(self, call: CallRecord, now: Mapping[str, int]) -> CallLine:
         before = self._before.get(call.circuit, {})

@@ -50,7 +50,7 @@ class DisconnectWatch:
         self._blocks = False
         self._looked = inf
 
-    def asked(self, client: object, words: list[str], now: float) -> CommandAnswer:
+    def request(self, client: object, words: list[str], now: float) -> CommandAnswer:
         """A client asks with these words, or, without any, for what is usual on this trunk."""
         try:
             wish = on_loss_of(words) if words else self._usual
@@ -63,24 +63,24 @@ class DisconnectWatch:
         self._due = None
         return DONE
 
-    def holds(self, client: object) -> bool:
+    def has_request_of(self, client: object) -> bool:
         """Whether something is to be done when it is gone."""
         return client in self._asked
 
-    def said(self, client: object, now: float) -> None:
+    def on_message(self, client: object, now: float) -> None:
         """A client has said something: it is there."""
         if its := self._asked.get(client):
             if its.is_silent:
                 self._due = None
             its.said, its.is_silent = now, False
 
-    def left(self, client: object, now: float) -> None:
+    def on_disconnect(self, client: object, now: float) -> None:
         """A client is gone."""
         its = self._asked.pop(client, None)
         if its and not its.is_silent:
-            self._lost(its.wish, now)
+            self._carry_out(its.wish, now)
 
-    def _lost(self, wish: DisconnectPolicy, since: float) -> None:
+    def _carry_out(self, wish: DisconnectPolicy, since: float) -> None:
         if wish.seconds is not None and all(each.is_silent for each in self._asked.values()):
             self._due, self._blocks = since + wish.seconds, wish.blocks
 
@@ -92,7 +92,7 @@ class DisconnectWatch:
                 its.said += stood
             if its.wish.alive is not None and not its.is_silent and now - its.said > its.wish.alive:
                 its.is_silent = True
-                self._lost(its.wish, its.said)
+                self._carry_out(its.wish, its.said)
         if self._due is not None and now >= self._due:
             self._due = None
             self._clear('the last control client is gone', self._blocks)

@@ -87,7 +87,7 @@ class Clock:
         self._on_time = 0                   # octets up to the last one that did not come later than a gap
         self._rates: deque[tuple[float, float]] = deque()
 
-    def took(self, count: int, now: float) -> None:
+    def add_octets(self, count: int, now: float) -> None:
         """So many octets were read."""
         self.octets += count
         behind = now - self._began - self.octets / OCTETS_A_SECOND
@@ -100,7 +100,7 @@ class Clock:
         """Whether octets flow at their rate."""
         return len(self._lows) == WINDOW and max(self._lows) - min(self._lows) < STEADY
 
-    def missed(self) -> None:
+    def restart(self) -> None:
         """Octets were not seen: what the others are behind by is measured anew."""
         self._low = self._base = None
         self._lows.clear()

@@ -27,7 +27,7 @@ class ToldCounts:
         if len(self.refused) != len(REASONS):
             raise ValueError(f'{len(self.refused)} reasons')
 
-    def behind(self, before: ToldCounts) -> ToldCounts:
+    def added_to(self, before: ToldCounts) -> ToldCounts:
         """These and those of sessions before."""
         return ToldCounts(before.accepted + self.accepted, self.jitter, tuple(map(add, before.refused, self.refused)))
 
@@ -59,10 +59,10 @@ class CircuitCounts:
     @property
     def stream(self) -> ToldCounts:
         """Those of all sessions that told of them."""
-        return self.told.behind(self.before)
+        return self.told.added_to(self.before)
 
     def note(self) -> PacketsNote:
-        return PacketsNote(self.before, self.told, self.numbers.lost, self.cause)
+        return PacketsNote(self.before, self.told, self.numbers.count_lost, self.cause)
 
     def take_up(self, note: PacketsNote) -> None:
         self.before, self.told, self.numbers.before, self.cause = note.before, note.told, note.lost, note.cause
@@ -72,7 +72,7 @@ class CircuitCounts:
         self.cause = ''
         self.numbers.begin()
 
-    def settle(self) -> None:
+    def commit(self) -> None:
         """All of this is of one moment."""
         if self.refused < max(self.settled, sum(self.stream.refused)):
             self.before = replace(self.before, refused=NONE_REFUSED)    # (they were of another gateway)
@@ -106,9 +106,9 @@ class DatagramCounts:
         for row in self.circuits.values():
             row.before, row.told = row.stream, ToldCounts()
 
-    def settle(self) -> None:
+    def commit(self) -> None:
         for row in self.circuits.values():
-            row.settle()
+            row.commit()
 
     def go_on(self, known: DatagramCounts) -> None:
         """What was told up to now is what is known of each circuit."""
@@ -127,7 +127,7 @@ class DatagramCounts:
                 self.circuits[circuit].numbers.take(octets, at, length)
             at += length
 
-    def missed(self) -> None:
+    def skip(self) -> None:
         """A part of the log was not read."""
         for row in self.circuits.values():
             row.numbers.begin()
@@ -157,5 +157,5 @@ class DatagramCounts:
     def status(self, circuit: int) -> dict[str, Any]:
         """The counts of a circuit, as plain values."""
         row = self.circuits[circuit]
-        return {'datagrams': row.counts(), 'lost': row.numbers.lost,
+        return {'datagrams': row.counts(), 'lost': row.numbers.count_lost,
                 'jitter_ms': round(row.stream.jitter / SAMPLES, 2), 'stale': self.stale()}

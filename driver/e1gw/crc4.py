@@ -89,7 +89,7 @@ class Crc4:
         """Another program follows on this device, whose counts begin at 0."""
         self._last = {}
 
-    def ended(self) -> None:
+    def reset(self) -> None:
         """The device has ended: another one may have no CRC-4."""
         self.aligned, self._last = None, {}
 

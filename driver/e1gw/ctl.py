@@ -97,7 +97,7 @@ def ask(stream: BinaryIO, line: socket.socket, command: str, patience: float, fr
     return answer.is_done if answer else word in ASKING
 
 
-def follow(stream: BinaryIO) -> None:
+def print_events(stream: BinaryIO) -> None:
     """Prints events as they come."""
     for event in stream:
         print(event.decode(errors='replace'), end='', flush=True)
@@ -110,7 +110,7 @@ def run(path: str, words: list[str], patience: float) -> int:
         if words == ['events']:
             answer_to(line, stream, 'events', patience)
             line.settimeout(None)
-            follow(stream)
+            print_events(stream)
             return 0
         commands = [' '.join(words)] if words else (each.strip() for each in sys.stdin)
         done = [ask(stream, line, each, patience) for command in commands if command for each in each_circuit(command)]

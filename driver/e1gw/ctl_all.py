@@ -110,7 +110,7 @@ class TrunkLine(NamedTuple):
     state: str = ''
 
     @classmethod
-    def of(cls, name: str, status: Mapping[str, Any]) -> TrunkLine:
+    def from_status(cls, name: str, status: Mapping[str, Any]) -> TrunkLine:
         """That of a status."""
         rows = status['circuits']
         since = '' if status.get('fault') else time.strftime('%Y-%m-%d %H:%M',
@@ -144,7 +144,7 @@ def asked_trunks(patience: float) -> Iterator[TrunkHere]:
     for name, path in here:
         try:
             status = status_of(path, patience)
-            yield TrunkHere(True, TrunkLine.of(name, status), status)
+            yield TrunkHere(True, TrunkLine.from_status(name, status), status)
         except (OSError, ValueError, KeyError) as fault:
             yield TrunkHere(True, TrunkLine(name, state=f'does not answer: {words_of_fault(fault, path)}'))
     for name in sorted(set(units_here()) - {name for name, _ in here} - {EXAMPLE}):

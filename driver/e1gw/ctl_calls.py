@@ -43,16 +43,16 @@ class Wanted:
     first: float | None = None
     end: float | None = None
 
-    def of(self, ended: Iterable[CallLine]) -> list[CallLine]:
+    def select_ended(self, ended: Iterable[CallLine]) -> list[CallLine]:
         """Those of calls that have ended, the last one first."""
         if self.first is not None:
             first = self.first
             ended = (each for each in takewhile(lambda each: second_of(each.ended) >= first - WRITTEN, ended)
                      if second_of(each.ended) >= first)
         is_any = self.first is None and self.end is None
-        return [*islice(self.begun(ended), self.last or (LAST if is_any else None))]
+        return [*islice(self.select_open(ended), self.last or (LAST if is_any else None))]
 
-    def begun(self, calls: Iterable[CallLine]) -> Iterator[CallLine]:
+    def select_open(self, calls: Iterable[CallLine]) -> Iterator[CallLine]:
         """Those of the circuit, if it is one alone, that had begun by the end."""
         end = inf if self.end is None else self.end
         return (each for each in calls if self.circuit in (None, int(each.circuit))
@@ -89,8 +89,8 @@ def calls_listed(trunks: Iterable[tuple[str, str]], wanted: Wanted, is_csv: bool
 
     def lists(_: str, told: Mapping[str, Any]) -> None:
         file = told['calls_file']
-        ended = wanted.of(read_calls(file)) if file else []
-        its = [*reversed(ended), *wanted.begun(CallLine(**each) for each in told['calls'])]
+        ended = wanted.select_ended(read_calls(file)) if file else []
+        its = [*reversed(ended), *wanted.select_open(CallLine(**each) for each in told['calls'])]
         found.extend(its)
         for call in its:
             print(csv_line(call) if is_csv else row_of(call), flush=True)

@@ -77,7 +77,7 @@ def without_addresses(parts: Mapping[str, str]) -> dict[str, str]:
     """The same without addresses and names of hosts."""
     hidden = HiddenAddresses()
     hidden.find_names(text for name, text in parts.items() if name.endswith(OPTIONS))
-    return {name: hidden.without(text) for name, text in parts.items()}
+    return {name: hidden.hide_in(text) for name, text in parts.items()}
 
 
 def report(name: str, path: str, file: str, hides: bool, patience: float) -> int:

@@ -32,7 +32,7 @@ class Hearing:
     discarded: int = 0
     cause: str = ''
 
-    def seen(self, counts: ToldCounts, place: int) -> Hearing:
+    def updated(self, counts: ToldCounts, place: int) -> Hearing:
         """The same with the counts up to an octet of the trunk."""
         if counts.accepted != self.counts.accepted:
             return Hearing(counts, place)
@@ -58,7 +58,7 @@ class DeafCalls:
         """Goes on with what was told of these circuits."""
         self.causes.update(causes)
 
-    def ended(self, circuit: int) -> None:
+    def forget(self, circuit: int) -> None:
         """Its call is over, or not answered any more."""
         self._hearings.pop(circuit, None)
         if self.causes.pop(circuit, ''):
@@ -66,7 +66,7 @@ class DeafCalls:
 
     def look(self, place: int, answered: Mapping[int, ToldCounts]) -> None:
         """To be called a few times a second, with the octet of the trunk and the counts of answered circuits."""
-        self._hearings = {n: (self._hearings.get(n) or self._begun(n, counts, place)).seen(counts, place)
+        self._hearings = {n: (self._hearings.get(n) or self._start(n, counts, place)).updated(counts, place)
                           for n, counts in answered.items()}
         before, now = self.causes, {n: why for n, each in self._hearings.items() if (why := each.why_deaf(place))}
         self.causes = now
@@ -76,7 +76,7 @@ class DeafCalls:
         for why in sorted({*begun.values()}):
             self._tell(CallsDeaf(True, (*(n for n in begun if begun[n] == why),), why))
 
-    def _begun(self, circuit: int, counts: ToldCounts, place: int) -> Hearing:
+    def _start(self, circuit: int, counts: ToldCounts, place: int) -> Hearing:
         """That of a circuit of which nothing was counted yet; of one that was told to hear nothing it goes on."""
         if cause := self.causes.get(circuit, ''):
             return Hearing(counts, place - DEAF_AFTER, place, cause if cause != NO_PACKETS else '')

@@ -464,7 +464,7 @@ class ReadEvents:
         elif alarm:
             self._alarms.pop(alarm[0], None)
 
-    def standing(self) -> dict[str, ReadEvent]:
+    def active_alarms(self) -> dict[str, ReadEvent]:
         """The alarms that stand, by what they are."""
         return self._alarms
 

@@ -117,7 +117,7 @@ class LogFiles:
         """When the records of a pair were written last, by the time of day."""
         return os.fstat(self._files[RECORDS[number]]).st_mtime
 
-    def begun(self, number: int) -> float:
+    def written_at(self, number: int) -> float:
         """When the state of a pair was written."""
         return os.fstat(self._files[STATES[number]]).st_mtime
 
@@ -207,7 +207,7 @@ class FolderReader:
         if not head or head.turn < self._turn:      # (a head is written in this moment)
             return []
         if head.turn == self._turn:
-            return self._more(number, head, self.base)
+            return self._read_more(number, head, self.base)
         state = self.files.state(number)
         if not state or state.turn != head.turn:
             return []
@@ -216,7 +216,7 @@ class FolderReader:
             found.append(self._at(state))
             self.place = state.place
         self._turn, self.number, self.base = state.turn, number, state.place
-        return found + self._more(number, head, state.place)
+        return found + self._read_more(number, head, state.place)
 
     def _newest(self) -> tuple[int, Head | None]:
         """The number of the newest pair, and the head of its records. It is mostly the one that was read last: the
@@ -246,12 +246,12 @@ class FolderReader:
             return []
         was, begun = self.place, [self._at(before)] if self.place < before.place else []
         self.place = max(was, before.place)
-        if more := self._more(number, head, before.place):
+        if more := self._read_more(number, head, before.place):
             return begun + more
         self.place = was        # (it was written over meanwhile)
         return []
 
-    def _more(self, number: int, head: Head, base: int) -> list[LogNews]:
+    def _read_more(self, number: int, head: Head, base: int) -> list[LogNews]:
         """The records of a pair, whose state is at `base`, behind what was read."""
         if not 0 <= self.place - base < head.length:
             return []
@@ -287,9 +287,9 @@ class LogWriter:
         if len(octets) > STATE_ROOM - HEAD_LEN or len(records) > RECORDS_ROOM - HEAD_LEN:
             raise NoRoom
         self._turn += 1
-        self._put(STATES[self._turn % 2], Head(self._turn, len(octets), zlib.adler32(octets)), octets)
+        self._write(STATES[self._turn % 2], Head(self._turn, len(octets), zlib.adler32(octets)), octets)
         self._head = Head(self._turn, len(records), zlib.adler32(records))
-        self._put(RECORDS[self._turn % 2], self._head, records)
+        self._write(RECORDS[self._turn % 2], self._head, records)
 
     def append(self, octets: bytes) -> None:
         """Records behind those that are there. NoRoom if there is none."""
@@ -297,9 +297,9 @@ class LogWriter:
         if before.length + len(octets) > RECORDS_ROOM - HEAD_LEN:
             raise NoRoom
         self._head = Head(before.turn, before.length + len(octets), zlib.adler32(octets, before.sum))
-        self._put(RECORDS[self._turn % 2], self._head, octets, before.length)
+        self._write(RECORDS[self._turn % 2], self._head, octets, before.length)
 
-    def _put(self, name: str, head: Head, octets: bytes, start: int = 0) -> None:
+    def _write(self, name: str, head: Head, octets: bytes, start: int = 0) -> None:
         """Octets, and then the head that has them."""
         write_at(self._files[name], octets, HEAD_LEN + start)
         write_at(self._files[name], head.spell(), 0)

@@ -74,7 +74,7 @@ class Ring:
         if self.zstd:
             self._packs.submit(self._pack, self.zstd)
 
-    def goes_on(self, front: str) -> None:
+    def continue_file(self, front: str) -> None:
         """A file of the session before this one is written on."""
         if front != self._front:
             self._front, self._about = front, read_object(f'{front}.json')

@@ -78,7 +78,7 @@ class TrunkState:
             its = self.lines[n]
             its.prefill, its.port, its.configured = line.prefill, line.port, line.configured
 
-    def told_again(self, place: int, clock: Callable[[], float]) -> TrunkState:
+    def replay_until(self, place: int, clock: Callable[[], float]) -> TrunkState:
         """What is told of these lines, from this place on, by another one that tells, with counts of its own."""
         again = TrunkState({}, self.tell, DatagramCounts(), clock)
         again.lines, again.alarms, again.remote, again.losses = self.lines, self.alarms, self.remote, self.losses
@@ -86,7 +86,7 @@ class TrunkState:
         again.begin(place)
         return again
 
-    def lost(self) -> None:
+    def on_disconnect(self) -> None:
         """Nobody tells any more."""
         self.live, self.counts.ended = False, 'nobody tells'
 
@@ -120,7 +120,7 @@ class TrunkState:
 
     def _now(self) -> None:
         self.live, self.known, self.counts.ended = True, True, None
-        self.counts.settle()
+        self.counts.commit()
         self.began()
 
     def _alarms(self, frame: str, multiframe: str, far_frame: str, far_multiframe: str) -> None:
@@ -168,9 +168,9 @@ class TrunkState:
             line.codec, line.payload = codec, int(payload_type)
             self.tell(CodecChanged(line.circuit, codec, line.payload, self.place))
         if state != line.state:
-            self._move(line, State(state))
+            self._change_state(line, State(state))
 
-    def _move(self, line: Line, state: State) -> None:
+    def _change_state(self, line: Line, state: State) -> None:
         """A line has another state than was told before."""
         before, line.state = line.state, state
         commanded = self._led.pop(line.circuit, None)

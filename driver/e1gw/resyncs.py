@@ -88,7 +88,7 @@ class OpenCall:
         first, last = self.refused.places()
         return last - first >= _SPAN // 2
 
-    def due(self, now: float, counts: bool) -> str | None:
+    def restart_reason(self, now: float, counts: bool) -> str | None:
         """Why it is restarted now, if it is."""
         why = None
         if self.why and now - self.lost_at >= APART:
@@ -119,7 +119,7 @@ class Resyncs:
             call = self._calls.get(circuit) or self._call(circuit)
             call.take(place, refused, count)
 
-    def want(self, circuits: Iterable[int], why: str) -> None:
+    def request(self, circuits: Iterable[int], why: str) -> None:
         """Open calls are to be restarted."""
         for n in circuits:
             self._call(n).why = why
@@ -133,7 +133,7 @@ class Resyncs:
         for n in self._calls.keys() - opened:
             del self._calls[n]
         for n, call in self._calls.items():
-            why = call.due(now, counts)
+            why = call.restart_reason(now, counts)
             if why:
                 due.setdefault(why, []).append(n)
                 call.restarted(place)

@@ -93,7 +93,7 @@ class SatopSeen(NamedTuple):
     unheard: int | None = None
     holding: tuple[SatopCondition, ...] = ()
 
-    def then(self, counts: dict[str, int], unheard: int) -> SatopSeen:
+    def updated(self, counts: dict[str, int], unheard: int) -> SatopSeen:
         """The same with the next counts. What a count tells of holds from when it grows until packets come and it does
         not; packets that are refused are not missing."""
         def grown(count: str) -> int:

@@ -176,25 +176,25 @@ class ReloadEffects:
     ports_then: frozenset[int]
 
     @property
-    def ended(self) -> frozenset[int]:
+    def ended_calls(self) -> frozenset[int]:
         """Whose calls end."""
         return self.new & self.calls
 
     @property
-    def mute(self) -> frozenset[int]:
+    def muted_calls(self) -> frozenset[int]:
         """Whose calls lose their ports."""
         return (self.calls & self.ports) - self.ports_then - self.new
 
     @property
-    def hurt(self) -> frozenset[int]:
-        return self.ended | self.mute
+    def affected_calls(self) -> frozenset[int]:
+        return self.ended_calls | self.muted_calls
 
     def is_refused(self, force: bool) -> bool:
         """Whether it ends too many calls."""
-        return len(self.hurt) > MOST_ENDED and not force
+        return len(self.affected_calls) > MOST_ENDED and not force
 
 
-def tried(asked: Asked) -> dict[str, Any]:
+def try_version(asked: Asked) -> dict[str, Any]:
     """Tries a version, behind one before it if there is one."""
     program, config = asked['program'], asked['config']
     text, name = read(config), version_name(asked)
@@ -210,20 +210,20 @@ def tried(asked: Asked) -> dict[str, Any]:
     found = check(asked, program, version.config(), log)
     if not asked['before']:
         return {'tried': version._asdict(), 'told': ''}
-    before, now = tried_in(asked['before']), running(asked, log)
+    before, now = tried_in(asked['before']), circuits_now(asked, log)
     calls = now.calls | found.calls
-    hurt = ReloadEffects(calls, found.new, frozenset(before.ports), frozenset(version.ports)).hurt
+    hurt = ReloadEffects(calls, found.new, frozenset(before.ports), frozenset(version.ports)).affected_calls
     if wait := {n for n in hurt if asked['when_idle'] or has_codec(before, version, n, now.codecs)}:
         if version.head != before.head:
             raise TrialRefused('law and host are of all circuits, and wait for no call')
         version = version.keeping(before, wait)
         found = check(asked, program, version.config(), log)
     runs = is_same_file(asked) and version._replace(wait=before.wait) == before
-    return {'tried': version._asdict(), 'told': effects(asked, version, found.new, calls),
-            'changes': changes(before, version), 'runs': runs}
+    return {'tried': version._asdict(), 'told': describe_effects(asked, version, found.new, calls),
+            'changes': describe_changes(before, version), 'runs': runs}
 
 
-def running(asked: Asked, log: LogPair | None) -> Checked:
+def circuits_now(asked: Asked, log: LogPair | None) -> Checked:
     """How the circuits stand with the configuration before, by either program. If neither says it, all may be in a
     call."""
     before = tried_in(asked['before'])
@@ -251,7 +251,7 @@ def is_same_file(asked: Asked) -> bool:
     return os.path.samestat(now, before) and (now.st_size, now.st_mtime_ns) == (before.st_size, before.st_mtime_ns)
 
 
-def changes(before: Tried, version: Tried) -> str:
+def describe_changes(before: Tried, version: Tried) -> str:
     """What is new of a version, in words."""
     others = [n for n in CIRCUITS if before.circuits.get(n) != version.circuits.get(n)]
     return '; '.join([*[f'program {version.name} in place of {before.name}'] * (version.name != before.name),
@@ -260,13 +260,14 @@ def changes(before: Tried, version: Tried) -> str:
                       *[f'circuits {circuit_words(version.wait)} are when their calls end'] * bool(version.wait)])
 
 
-def effects(asked: Asked, version: Tried, new: frozenset[int], calls: frozenset[int]) -> str:
+def describe_effects(asked: Asked, version: Tried, new: frozenset[int], calls: frozenset[int]) -> str:
     """What a reload does to calls, in words. TrialRefused if that is too much."""
     found = ReloadEffects(calls, new, frozenset(tried_in(asked['before']).ports), frozenset(version.ports))
     if found.is_refused(asked['force']):
-        raise TrialRefused(f'it would end {calls_in(found.hurt)}: reload --when-idle waits for them, reload force does')
-    return '; '.join([*[f'it ends {calls_in(found.ended)}'] * bool(found.ended),
-                      *[f'it takes the ports of {calls_in(found.mute)}'] * bool(found.mute)])
+        raise TrialRefused(f'it would end {calls_in(found.affected_calls)}: '
+                           'reload --when-idle waits for them, reload force does')
+    return '; '.join([*[f'it ends {calls_in(found.ended_calls)}'] * bool(found.ended_calls),
+                      *[f'it takes the ports of {calls_in(found.muted_calls)}'] * bool(found.muted_calls)])
 
 
 def calls_in(circuits: Iterable[int]) -> str:
@@ -284,7 +285,7 @@ def last_of(folder: str) -> LogPair | None:
         return None
 
 
-def loaded(asked: Asked) -> dict[str, Any]:
+def load_state(asked: Asked) -> dict[str, Any]:
     """Begins a log with the state that was saved in a file: all of it, or nothing."""
     with open(asked['state'], 'rb') as file:
         octets = file.read()
@@ -296,7 +297,7 @@ def loaded(asked: Asked) -> dict[str, Any]:
     return {}
 
 
-def saved(asked: Asked) -> dict[str, Any]:
+def save_state(asked: Asked) -> dict[str, Any]:
     """Puts the state behind a whole log into a file, whole and up to the disk."""
     if log := last_of(asked['log']):
         new = f'{asked["state"]}.new'
@@ -310,14 +311,14 @@ def saved(asked: Asked) -> dict[str, Any]:
     return {}
 
 
-def begins(asked: Asked) -> dict[str, Any]:
+def try_start(asked: Asked) -> dict[str, Any]:
     """The holder of now could begin."""
     import_module('.holder.main', __package__)
     return {}
 
 
 DOES: Mapping[str, Callable[[Asked], dict[str, Any]]] = {
-    'try': tried, 'load': loaded, 'save': saved, 'begin': begins}
+    'try': try_version, 'load': load_state, 'save': save_state, 'begin': try_start}
 
 
 def answer(asked: Asked) -> dict[str, Any]:

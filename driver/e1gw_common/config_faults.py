@@ -224,7 +224,7 @@ def address(host: str, port: int, name: str) -> tuple[int, Any]:
     return family, where
 
 
-def bound(host: str, port: int) -> socket.socket:
+def bind_socket(host: str, port: int) -> socket.socket:
     """A circuit's socket. ValueError says why there is none."""
     family, where = address(host, port, 'host')
     line = socket.socket(family, socket.SOCK_DGRAM)
@@ -246,7 +246,7 @@ def socket_fault(host: str, circuit: dict[str, Any]) -> str | None:
         peer, _ = address(circuit.get('peer_host', '127.0.0.1'), circuit['peer_port'], 'peer_host')
         if family != peer:
             return f'host "{host}" and peer_host "{circuit["peer_host"]}" are of different address families'
-        bound(host, circuit['local_port']).close()
+        bind_socket(host, circuit['local_port']).close()
     except ValueError as error:
         return str(error)
     return None

@@ -20,7 +20,7 @@ class NumberedStream:
         self.source, self.lost = source, 0
         self._highest, self._came = sequence, _KNOWN    # a bit for each number of the window, the highest one first
 
-    def takes(self, sequence: int, source: int) -> bool:
+    def add(self, sequence: int, source: int) -> bool:
         """Counts a packet, if it is one of these."""
         ahead = (sequence - self._highest + 0x8000 & 0xFFFF) - 0x8000
         least, most = (-WINDOW, AHEAD) if source == self.source else (-NEAR, NEAR)
@@ -45,13 +45,13 @@ class ReceivedNumbers:
         self._row = 0                   # packets of that
 
     @property
-    def lost(self) -> int:
+    def count_lost(self) -> int:
         """Packets that were lost."""
         return self.before + (self._now.lost if self._now else 0)
 
     def begin(self, stream: NumberedStream | None = None) -> None:
         """Another stream begins, by default with the next packet."""
-        self.before, self._now, self._next = self.lost, stream, None
+        self.before, self._now, self._next = self.count_lost, stream, None
 
     def take(self, octets: bytes, at: int, length: int) -> None:
         """A datagram that has come, of this length, at a place of octets."""
@@ -62,9 +62,9 @@ class ReceivedNumbers:
             return
         if self._now is None:
             self._now = NumberedStream(sequence, source)
-        elif self._now.takes(sequence, source):
+        elif self._now.add(sequence, source):
             self._next = None
-        elif self._next is not None and self._next.takes(sequence, source):
+        elif self._next is not None and self._next.add(sequence, source):
             self._row += 1
             if self._row == IN_A_ROW:
                 self.begin(self._next)

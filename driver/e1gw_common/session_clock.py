@@ -53,7 +53,7 @@ class Break(NamedTuple):
     def is_outage(self) -> bool:
         return self.lost >= OUTAGE
 
-    def behind(self, place: int) -> Break:
+    def shifted(self, place: int) -> Break:
         """The same where the session begins at this place."""
         return self._replace(place=self.place + place)
 
@@ -85,7 +85,7 @@ class SessionClock:
             before = int(place)
         return before
 
-    def lost(self, first: int, last: int) -> float:
+    def seconds_lost(self, first: int, last: int) -> float:
         """The seconds of the trunk that are missing behind a place, up to another."""
         return sum(each.lost for each in self.breaks if first < each.place <= last)
 
@@ -101,7 +101,7 @@ class FileNote:
     slips: tuple[tuple[int, float], ...]
 
     @classmethod
-    def of(cls, about: Mapping[str, Any]) -> FileNote | None:
+    def from_json(cls, about: Mapping[str, Any]) -> FileNote | None:
         """None if it does not say its place and its time."""
         if 'place' not in about or 'time' not in about:
             return None
@@ -114,7 +114,7 @@ class FileNote:
         passed = self.monotonic - before.monotonic
         return passed if passed > 0 else self.time - before.time
 
-    def twice(self, owed: float, away: float) -> tuple[int, float] | None:
+    def repeated_slip(self, owed: float, away: float) -> tuple[int, float] | None:
         """Which slip tells once more of what is missed before this file, and how many seconds more it has: the flow is
         measured through all files, and a gap is found behind the octets that end it. Of files that begin soon behind
         one another the slip tells of all, which are `owed`; of this one, that is `away`, if the measure began in
@@ -148,7 +148,7 @@ def _breaks(notes: Sequence[FileNote]) -> Iterator[Break]:
         place = note.place - first.place
         away = note.since(last) - (note.place - last.place) / OCTETS_A_SECOND - inside
         owed = (owed if note.place - last.place <= SOON else 0.0) + (away if away >= LEAST else 0.0)
-        found, more = note.twice(owed, away) or (-1, 0.0)
+        found, more = note.repeated_slip(owed, away) or (-1, 0.0)
         owed = 0.0 if found >= 0 else owed
         later = note.time - first.time - place / OCTETS_A_SECOND - shift + more
         last, inside = note, more

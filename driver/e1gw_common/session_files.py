@@ -48,10 +48,10 @@ class RecordedSession:
         """The same from a place on, where the gateway is another one."""
         return replace(self, begin=None if self.begin is None else self.clock.second(place), place=self.place + place,
                        slips=self.slips and [(at - place, seconds) for at, seconds in self.slips if at > place],
-                       breaks=[each.behind(-place) for each in self.breaks if each.place > place])
+                       breaks=[each.shifted(-place) for each in self.breaks if each.place > place])
 
 
-def kept(path: str, last: int | None = None) -> RecordedSession:
+def open_session(path: str, last: int | None = None) -> RecordedSession:
     """A session in one file, or what was kept in a folder. Of a folder the last octets of the trunk,
     this number, are enough, if it was kept what the gateway was before them."""
     if not os.path.isdir(path):
@@ -84,7 +84,7 @@ def _sessions_in(path: str) -> list[list[str]]:
     if len(trunks) > 1:
         raise InputError(f'{path} holds sessions of several trunks: {", ".join(sorted(trunks))}')
     files = _in_order([os.path.join(path, name) for name in names])
-    edges = sorted({0, *_begun([note_of(file) for file in files]), len(files)})
+    edges = sorted({0, *_session_starts([note_of(file) for file in files]), len(files)})
     return [files[first:last] for first, last in zip(edges, edges[1:])]
 
 
@@ -103,7 +103,7 @@ def _in_order(files: list[str]) -> list[str]:
     return found + [file for file in files if file not in found]
 
 
-def _begun(abouts: list[dict[str, Any]]) -> list[int]:
+def _session_starts(abouts: list[dict[str, Any]]) -> list[int]:
     """Which of the files begin a session: a new gateway, or one of another configuration than the file before."""
     sums = [about.get('config_sha256') for about in abouts]
     return [n for n, about in enumerate(abouts)
@@ -158,7 +158,7 @@ def _told(session: RecordedSession) -> RecordedSession:
     session.place = about.get('place', 0)
     session.state = state_of(session.files[0]) if session.middle else ''
     if 'place' in about:
-        notes = [note for file in session.files if (note := FileNote.of(note_of(file)))]
+        notes = [note for file in session.files if (note := FileNote.from_json(note_of(file)))]
         session.slips = slips_of(notes)
         session.breaks = [*breaks_of(notes)]
     return session

@@ -15,7 +15,7 @@ P = ParamSpec('P')
 logger = logging.getLogger(__name__)
 
 
-async def either(seconds: float | None, *events: asyncio.Event) -> None:
+async def wait_any(seconds: float | None, *events: asyncio.Event) -> None:
     """Waits until one of these events is set, so long at most if that is said."""
     waits = [asyncio.ensure_future(event.wait()) for event in events]
     await asyncio.wait(waits, timeout=seconds, return_when=asyncio.FIRST_COMPLETED)
@@ -23,24 +23,24 @@ async def either(seconds: float | None, *events: asyncio.Event) -> None:
         each.cancel()
 
 
-def beat(seconds: float) -> float:
+def next_beat(seconds: float) -> float:
     """The next moment that is a multiple of these seconds, a quarter of them from now at least, by the clock of the
     loop. What waits for such moments side by side wakes this process once."""
     return (asyncio.get_running_loop().time() / seconds + 1.25) // 1 * seconds
 
 
 @contextmanager
-def every(seconds: float, work: Callable[[], object], what: str) -> Iterator[None]:
+def run_periodically(seconds: float, work: Callable[[], object], what: str) -> Iterator[None]:
     """Does a work at each beat meanwhile. One that has failed is reported, and done again at the next."""
     loop = asyncio.get_running_loop()
     timer: asyncio.Handle
 
     def does() -> None:
         nonlocal timer
-        with goes_on(what):
+        with reporting_failures(what):
             work()
-        timer = loop.call_at(beat(seconds), does)
-    timer = loop.call_at(beat(seconds), does)
+        timer = loop.call_at(next_beat(seconds), does)
+    timer = loop.call_at(next_beat(seconds), does)
     try:
         yield
     finally:
@@ -51,16 +51,16 @@ class Tasks(set[asyncio.Task[Any]]):
     """Tasks that are held until they are done."""
 
     def begin(self, work: Coroutine[Any, Any, Any]) -> None:
-        self.begun(work)
+        self.create(work)
 
-    def begun(self, work: Coroutine[Any, Any, Any]) -> asyncio.Task[Any]:
+    def create(self, work: Coroutine[Any, Any, Any]) -> asyncio.Task[Any]:
         """The same, and returns the task."""
         self.add(task := asyncio.create_task(work))
         task.add_done_callback(self.discard)
         return task
 
 
-async def again(work: Callable[[], Awaitable[None]], what: str) -> None:
+async def retry(work: Callable[[], Awaitable[None]], what: str) -> None:
     """Does a work, and begins it again each time that it fails, reported with the place."""
     while True:
         try:
@@ -71,7 +71,7 @@ async def again(work: Callable[[], Awaitable[None]], what: str) -> None:
 
 
 @contextmanager
-def goes_on(what: str) -> Iterator[None]:
+def reporting_failures(what: str) -> Iterator[None]:
     """What fails within is reported, and is in nobody's way."""
     try:
         yield
@@ -79,10 +79,10 @@ def goes_on(what: str) -> Iterator[None]:
         has_failed(what, fault)
 
 
-def guarded(work: Callable[P, object], what: str) -> Callable[P, None]:
+def report_failure(work: Callable[P, object], what: str) -> Callable[P, None]:
     """The same work, whose failure is reported, and nothing else ends for it."""
     def does(*words: P.args, **more: P.kwargs) -> None:
-        with goes_on(what):
+        with reporting_failures(what):
             work(*words, **more)
     return does
 

@@ -50,7 +50,7 @@ class PageRequest:
     is_of_browser: bool
 
     @classmethod
-    def of(cls, head: bytes) -> PageRequest:
+    def parse(cls, head: bytes) -> PageRequest:
         """That of the head of a request. ValueError if it is none."""
         method, target = head.split(b' ', 2)[:2]
         accepted = b','.join(re.findall(rb'(?im)^accept:(.*?)\r?$', head)).lower().split(b',')
@@ -93,7 +93,7 @@ class WebServer:
     def __init__(self, fresh: Callable[[], Awaitable[StatusTexts]]) -> None:
         self._fresh, self._visitors = fresh, dict[asyncio.Task[None], None]()
 
-    async def came(self, reader: asyncio.StreamReader, writer: asyncio.StreamWriter) -> None:
+    async def on_connect(self, reader: asyncio.StreamReader, writer: asyncio.StreamWriter) -> None:
         """A visitor has connected."""
         task = asyncio.current_task()
         assert task
@@ -102,7 +102,7 @@ class WebServer:
         self._visitors[task] = None
         try:
             async with asyncio.timeout(SECONDS):
-                request = PageRequest.of(await reader.readuntil(b'\r\n\r\n'))
+                request = PageRequest.parse(await reader.readuntil(b'\r\n\r\n'))
                 stream = self.stream_of(request)
                 if not stream:
                     writer.write((await self._answer(request)).encode(request.method != b'HEAD'))

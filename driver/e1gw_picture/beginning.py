@@ -11,7 +11,7 @@ from collections.abc import Iterable, Iterator
 from contextlib import suppress
 from dataclasses import dataclass
 
-from e1gw_common.session_files import InputError, RecordedSession, kept
+from e1gw_common.session_files import InputError, RecordedSession, open_session
 from e1gw_common.lines import wait_words
 from e1gw_common.programs import program_of
 from e1gw_common.session import MULTIFRAME, Kind, records_for
@@ -49,7 +49,7 @@ def from_state(session: RecordedSession, config: str, program: str | None) -> tu
     if not session.state:
         return None, f'{os.path.basename(session.files[0])} has no state next to it'
     begun = started(session, config, program, session.state)
-    why = begun.replay.said()
+    why = begun.replay.last_error()
     if not why:
         return begun, ''
     with suppress(InputError):
@@ -61,7 +61,7 @@ def begin(path: str, last: int | None, config: str | None, program: str | None) 
     """A session by its path, and a note about its beginning. The last octets of a ring may be enough. If the gateway is
     not known where the session begins, it is a new one."""
     notes, asked, session = list[str](), '', RecordedSession([path])
-    for session in (kept(path, last), kept(path)) if path != '-' else (session,):
+    for session in (open_session(path, last), open_session(path)) if path != '-' else (session,):
         asked = config or session.config or ''
         if not asked:
             if path != '-':

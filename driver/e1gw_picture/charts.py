@@ -63,7 +63,7 @@ ODDS = (Odd('other law', 'came', 'other'), Odd('slot: other law', 'slot', 'other
         Odd('slot: silence', 'slot', 'silent'), Odd('other length', '', 'uneven'))
 
 
-def odds(whole: Cell) -> list[Odd]:
+def label_odd(whole: Cell) -> list[Odd]:
     return [odd for odd in ODDS if odd.is_of(whole)]
 
 
@@ -208,7 +208,7 @@ def _unheard(sheet: Sheet, row: Row, scale: Scale, seen: Pixels, column: float, 
     gaps = _gaps(row, scale, seen, column)
     sheet.path((f'M{LEFT + first:.0f} {y + 4.5:g}H{LEFT + last:.0f}' for first, last in gaps), 'nothing',
                f'circuit {row.number}: nothing comes, and the path is open')
-    for odd in odds(joined(seen.values())):
+    for odd in label_odd(joined(seen.values())):
         top = y - 1 if odd.way == 'slot' else y + 2.4
         sheet.path((f'M{LEFT + x} {top:g}h4v4.2h-4z' for x in apart(odd.columns(seen), 10)), odd.mark(),
                    f'circuit {row.number}: {odd.words}')
@@ -265,7 +265,7 @@ class PlayoutChart:
                    f'{whole.refused[code][0]} {name_of(code)}', 'tick' if code == NOT_OPEN else 'bad', 'p-strip')
                   for code in self.others]
         strips += [(odd.columns(self.seen), 4, odd.words, 'tick' if odd.what == 'silent' else 'bad', odd.mark())
-                   for odd in odds(whole)]
+                   for odd in label_odd(whole)]
         sheet = Sheet(TOP + HIGH + 6 + 13 * len(strips), f'Datagrams of circuit {row.number} against the '
                       f'jitter buffer: {whole.admitted} received; discarded: {refusals(whole) or "none"}')
         self._frame(sheet)

@@ -91,9 +91,9 @@ class Cell:
         if other.counts:
             self.counts.update(other.counts)
         for way, more in other.heard.items():
-            self.hear(way, more)
+            self.add_sample(way, more)
 
-    def hear(self, way: str, more: HeardSamples) -> None:
+    def add_sample(self, way: str, more: HeardSamples) -> None:
         """Adds a sample of one direction."""
         self.heard.setdefault(way, HeardSamples()).join(more)
 
@@ -230,11 +230,11 @@ class Row:
     before: Repetitions = field(default_factory=Repetitions)
     numbers: ReceivedNumbers = field(default_factory=ReceivedNumbers)
 
-    def came(self, place: int, code: int, datagram: bytes, sequence: int, stamp: int, ssrc: int) -> None:
+    def add_datagram(self, place: int, code: int, datagram: bytes, sequence: int, stamp: int, ssrc: int) -> None:
         """A datagram received, its answer, and three numbers of its header. A refused repetition counts separately."""
-        lost = self.numbers.lost
+        lost = self.numbers.count_lost
         self.numbers.take(datagram, 0, len(datagram))
-        self.cell.lost += self.numbers.lost - lost
+        self.cell.lost += self.numbers.count_lost - lost
         if self.before.is_one(datagram) and code:
             self.cell.counts['repetitions'] += 1
             return
@@ -249,9 +249,9 @@ class Row:
                 self.begun.append(place)
                 self.types[datagram[1] & 127] = place
             self.cell.admit(stream.margin(place, stamp))
-        self._follow(stream, sequence, stamp, len(datagram))
+        self._place_in_stream(stream, sequence, stamp, len(datagram))
 
-    def _follow(self, stream: CallStream, sequence: int, stamp: int, length: int) -> None:
+    def _place_in_stream(self, stream: CallStream, sequence: int, stamp: int, length: int) -> None:
         """Follows the place of a datagram in its stream."""
         ahead = sequence - stream.sequence & 0xFFFF
         if stream.sequence >= 0 and ahead != 1:
@@ -410,11 +410,11 @@ class Facts:
         """How long a circuit's path was open, in octets."""
         return sum(last - first for first, last, state in row.states.between(self.start, self.place) if state in OPEN)
 
-    def lost(self, what: str, place: int) -> None:
+    def add_loss(self, what: str, place: int) -> None:
         """Alignment was lost: of frames or of multiframes."""
         self.losses[what] += [place] * (len(self.losses[what]) < MOST)
 
-    def hear(self, circuit: int, place: int, way: str, more: HeardSamples) -> None:
+    def add_sample(self, circuit: int, place: int, way: str, more: HeardSamples) -> None:
         """A sample at a past place."""
         row = self.rows[circuit]
-        row.cells.get(place // self.width, row.cell).hear(way, more)
+        row.cells.get(place // self.width, row.cell).add_sample(way, more)

@@ -89,7 +89,7 @@ def times(count: int) -> str:
     return 'once' if count == 1 else f'{count} times'
 
 
-def some(each: list[str], between: str, more: str) -> str:
+def first_of(each: list[str], between: str, more: str) -> str:
     """The first of some texts, and how many more there are."""
     return between.join(each[:MOST_SPANS]) + more.format(len(each) - MOST_SPANS) * (len(each) > MOST_SPANS)
 
@@ -163,7 +163,7 @@ def _wrong_sources(row: Row, scale: Scale) -> str:
         others = [f'{ssrc:08x} came {times(count)} from {scale.words(first)} to {scale.words(last)}'
                   for ssrc, (count, first, last) in call.wrong.items()]
         calls.append(f'in the call whose first datagram had SSRC {right}, {" and ".join(others)}')
-    return some(calls, '; ', '; and in {} more calls')
+    return first_of(calls, '; ', '; and in {} more calls')
 
 
 def _refused(row: Row, whole: Cell, scale: Scale) -> Iterator[Anomaly]:
@@ -217,7 +217,7 @@ def _speech(row: Row, whole: Cell, opened: int, law: str, is_law_right: bool) ->
                           'tell: harsh noise')
 
 
-def _way(row: Row, whole: Cell) -> Iterator[Anomaly]:
+def _lost_on_the_way(row: Row, whole: Cell) -> Iterator[Anomaly]:
     """Whether what is sent arrives, by a capture."""
     wire = row.wire
     if wire is None:
@@ -279,7 +279,7 @@ def _trunk(facts: Facts, scale: Scale) -> Iterator[Anomaly]:
     if scale.outages:
         when = [f'from {scale.words(each.place, each.lost)} to {scale.words(each.place)} '
                 f'({duration(each.lost * SECOND)})' for each in scale.outages]
-        yield Anomaly('outage', 0, f'no octets of the trunk came {some(when, ", ", " and {} times more")}')
+        yield Anomaly('outage', 0, f'no octets of the trunk came {first_of(when, ", ", " and {} times more")}')
     slips = [(place, seconds) for place, seconds in facts.slips or () if facts.start <= place]
     if slips:
         yield Anomaly('slips', 0, f'e1gw-watch noted {len(slips)} slip{"s" * (len(slips) > 1)}, first at '
@@ -300,7 +300,7 @@ def findings(facts: Facts) -> list[Anomaly]:
     is_law_right = any('slot' in whole.heard and whole.heard['slot'].is_own() for whole in wholes.values())
     for n, row in facts.rows.items():
         whole, clocks = wholes[n], list(_clock(row, parts[n], found[n]))
-        out += [*_speech(row, whole, facts.open_for(row), facts.law, is_law_right), *_way(row, whole), *clocks,
-                *_refused(row, whole, scale), *_missing(row, whole),
+        out += [*_speech(row, whole, facts.open_for(row), facts.law, is_law_right), *_lost_on_the_way(row, whole),
+                *clocks, *_refused(row, whole, scale), *_missing(row, whole),
                 *_jitter(row, whole, parts[n], bool(clocks or found[n])), *_lines(row, whole)]
     return out

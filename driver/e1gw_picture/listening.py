@@ -8,7 +8,7 @@ from e1gw_common.lines import OPEN
 from e1gw_common.session import FRAME, packet_of
 from .facts import BITS, Facts, Row
 from .orders import STRETCH, Orders
-from .sound import LOOKED_AT, HeardSamples, heard, is_silent
+from .sound import LOOKED_AT, HeardSamples, sample_speech, is_silent
 
 AGAIN = 16                  # samples at least in the page of a trunk in service
 
@@ -20,9 +20,10 @@ class SpeechListener:
         self.facts = facts
         self.most = facts.last / AGAIN if facts.last else math.inf
         self.frame = 0                          # a place where a frame with the signal began
-        self.orders = Orders(program, facts.law, lambda circuit, place, seen: facts.hear(circuit, place, 'order', seen))
+        self.orders = Orders(program, facts.law,
+                             lambda circuit, place, seen: facts.add_sample(circuit, place, 'order', seen))
 
-    def came(self, row: Row, place: int, datagram: bytes) -> None:
+    def add_datagram(self, row: Row, place: int, datagram: bytes) -> None:
         """An admitted datagram: one of some in G.711, and of G.726 some that are consecutive."""
         stream = row.stream
         if stream.stretch is None:
@@ -30,8 +31,8 @@ class SpeechListener:
                 return
             payload = packet_of(datagram).payload
             if row.codec not in BITS:
-                return row.cell.hear('came', heard(payload, self.facts.law))
-            row.cell.hear('came', HeardSamples(1, is_silent(payload)))
+                return row.cell.add_sample('came', sample_speech(payload, self.facts.law))
+            row.cell.add_sample('came', HeardSamples(1, is_silent(payload)))
             stream.stretch = []
         stream.stretch.append(packet_of(datagram).payload)
         if len(stream.stretch) == STRETCH:
@@ -49,4 +50,4 @@ class SpeechListener:
         for row in due:
             row.stream.slot.come(place, self.most)
             first = (begin + row.number + (row.number > 15)) % FRAME
-            row.cell.hear('slot', heard(octets[first:first + LOOKED_AT * FRAME:FRAME], self.facts.law))
+            row.cell.add_sample('slot', sample_speech(octets[first:first + LOOKED_AT * FRAME:FRAME], self.facts.law))

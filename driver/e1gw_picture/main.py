@@ -99,7 +99,7 @@ def facts_of(begun: Begun, last: int | None = None) -> Facts:
     session, place = begun.session, begun.place
     facts = Facts(rows_of(with_wait(read_config(begun.config), begun.session.wait)), last)
     facts.slips = session.slips and [(place + at, seconds) for at, seconds in session.slips]
-    facts.breaks = [each.behind(place) for each in session.breaks]
+    facts.breaks = [each.shifted(place) for each in session.breaks]
     facts.begin = None if session.begin is None else session.begin - place / OCTETS_A_SECOND
     return facts
 

@@ -50,7 +50,7 @@ def is_quiet(row: Row, whole: Cell) -> bool:
     return whole.is_empty() and not row.commands and states in (['fault'], ['fault', 'idle'], ['idle'])
 
 
-def loud(heard: Mapping[str, HeardSamples], way: str) -> str:
+def describe_levels(heard: Mapping[str, HeardSamples], way: str) -> str:
     """The levels of one direction, as played and in the other law or order."""
     seen = heard.get(way)
     if not seen or not (seen.power and seen.under_other):
@@ -152,7 +152,7 @@ class PicturePage:
         return (f'<h2>The speech</h2><audio controls preload="metadata" src="{self.sound}"></audio><p class="note">'
                 'Left: what the trunk said; right: what it was sent of the network.</p>') * bool(self.sound)
 
-    def parts(self) -> str:
+    def sound_parts(self) -> str:
         """The call in parts of some seconds, each drawn for itself, with its sound."""
         facts, whole = self.facts, self.facts.place - self.facts.start
         count = min(PARTS, -(-whole // (EACH * SECOND)))
@@ -169,7 +169,7 @@ class PicturePage:
         words = f'{scale.words(first)}, {duration(last - first)}: {cell.sent} sent, {cell.admitted} received'
         words += f'; discarded: {charts.refusals(cell)}' * bool(cell.refused)
         played = ''.join(charts.PlayoutChart(row, facts, scale, seen[row.number]).drawn() for row in self.rows)
-        begin, end = ((place - facts.start) / SECOND + self.scale.clock.lost(facts.start, place)
+        begin, end = ((place - facts.start) / SECOND + self.scale.clock.seconds_lost(facts.start, place)
                       for place in (first, last))
         return (f'<details><summary>{escape(words)}</summary><audio controls preload="none" '
                 f'src="{self.sound}#t={begin:g},{end:g}"></audio><div class="wide end">'
@@ -184,7 +184,8 @@ class PicturePage:
         return (row.number, row.role, charts.MEANS[states.value], whole.counts['calls'],
                 whole.counts['answers'], f'{self.facts.open_for(row) / SECOND:.1f}', whole.sent, whole.admitted,
                 whole.discarded(), charts.refusals(whole), whole.counts['repetitions'], max(0, whole.lost),
-                margin, loud(whole.heard, 'order' if 'order' in whole.heard else 'came'), loud(whole.heard, 'slot'),
+                margin, describe_levels(whole.heard, 'order' if 'order' in whole.heard else 'came'),
+                describe_levels(whole.heard, 'slot'),
                 f'{row.codec} {row.payload}', ARROW.join(filter(None, (row.local, row.peer))))
 
     def counts(self) -> str:
@@ -212,7 +213,7 @@ class PicturePage:
                 + table('The states of the circuits', ('circuit', 'from', 'to', 'for', 'state'), states))
 
     def drawn(self) -> str:
-        facts, parts = self.facts, self.parts()
+        facts, parts = self.facts, self.sound_parts()
         circuits = charts.circuits(facts, self.rows, self.scale, self.seen)
         quiet = f'<p class="note">Nothing but idle: circuits {circuit_words(self.quiet)}.</p>' if self.quiet else ''
         page = PAGE.substitute(

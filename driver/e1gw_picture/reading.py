@@ -75,7 +75,7 @@ class SessionReading:
 
     def _begin(self) -> None:
         """The whole state, which is reported first. Nothing is reported if the program has ended."""
-        told = [line.split() for line in self.replay.told()]
+        told = [line.split() for line in self.replay.take_lines()]
         if told and told[0][:3] != TELLS:
             raise InputError(f'e1gw replay tells in another way: {" ".join(told[0])}')
         self.facts.law = told[0][3] if told else self.facts.law
@@ -87,19 +87,19 @@ class SessionReading:
         next ones. `reached` is called with the place."""
         before: list[bytes] = []
         try:
-            for records in self._some(octets):
+            for records in self._batches(octets):
                 self.came += [record[HEAD:] for record in records if record[0] == DATAGRAM]
                 self.replay.give(b''.join(records))
-                if not self._take(before):
+                if not self._take_records(before):
                     return
                 before = records
                 reached(self.place)
             self.replay.give(b'')
-            self._take(before)
+            self._take_records(before)
         finally:
             self.listener.orders.look()
 
-    def _some(self, octets: Iterable[bytes]) -> Iterator[list[bytes]]:
+    def _batches(self, octets: Iterable[bytes]) -> Iterator[list[bytes]]:
         """All records, some at a time: in a long session more than in a short one."""
         records, left = list[bytes](), LEAST
         for record in records_of(octets):
@@ -111,7 +111,7 @@ class SessionReading:
                 records, left = [], min(max(self.facts.width, LEAST), MOST)
         yield records
 
-    def _take(self, records: list[bytes]) -> bool:
+    def _take_records(self, records: list[bytes]) -> bool:
         """What became of records; returns whether all were answered."""
         facts, (size, whole) = self.facts, self._answered(len(records))
         octets = b''.join([record[HEAD:] for record in records if record[0] == TRUNK])[:size]
@@ -121,7 +121,7 @@ class SessionReading:
             facts.alarms['here', 'ones'].put(self.place - size + run.end(), False)
         if size >= LEAST and not facts.alarms['here', 'frame'].value:
             self.listener.trunk(octets, self.place)
-        self._hear()
+        self._take_reports()
         facts.turn(self.place)
         for circuit in (self.only,) if self.only else self.sent:
             facts.rows[circuit].cell.sent += self.sent[circuit]
@@ -135,7 +135,7 @@ class SessionReading:
         end = len(held)
         while asked:
             if at + HEAD > end or (after := at + HEAD + (held[at + 2] << 8 | held[at + 3])) > end:
-                piece = self.replay.answers()
+                piece = self.replay.read_answers()
                 if not piece:
                     break
                 held, at = held[at:] + piece, 0
@@ -154,9 +154,9 @@ class SessionReading:
 
     # ---- what the program reports ----
 
-    def _hear(self) -> None:
+    def _take_reports(self) -> None:
         """What is reported up to the place; the lines of records behind it wait."""
-        self.told += self.replay.told()
+        self.told += self.replay.take_lines()
         while self.told:
             name, *words = self.told[0].split()
             if name == 'at' and self.begin + int(words[0]) > self.place:
@@ -172,14 +172,14 @@ class SessionReading:
 
     def _datagram(self, circuit: str, code: str, *numbers: str) -> None:
         row, datagram = self.facts.rows[int(circuit)], self.came.popleft()
-        row.came(self.at, int(code), datagram, *map(int, numbers))
+        row.add_datagram(self.at, int(code), datagram, *map(int, numbers))
         if code == '0':
-            self.listener.came(row, self.at, datagram)
+            self.listener.add_datagram(row, self.at, datagram)
 
     def _alarms(self, *bits: str) -> None:
         for ((where, what), spans), bit in zip(self.facts.alarms.items(), bits):
             if where == 'here' and bit == '1' and not spans.value:
-                self.facts.lost(what, self.changed)
+                self.facts.add_loss(what, self.changed)
             spans.put(self.changed, bit == '1')
 
     def line_told(self, circuit: str, _role: str, state: str, *rest: str) -> None:

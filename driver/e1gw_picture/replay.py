@@ -46,12 +46,12 @@ class Replay:
     def _begin(self, path: str) -> None:
         """Connects to the socket, which is open once a record is answered, and is let in behind the next record."""
         self.give(NOTHING)
-        if self.answers():
+        if self.read_answers():
             self._socket.connect(path)
             self._socket.setblocking(False)
             self._tells.append(self._socket)
             self.give(NOTHING)
-            self.answers()
+            self.read_answers()
 
     def give(self, octets: bytes) -> None:
         """Octets of the session; none: no more follow."""
@@ -63,19 +63,19 @@ class Replay:
                 self._to.write(octets)
                 self._to.flush()
 
-    def answers(self) -> bytes:
+    def read_answers(self) -> bytes:
         """More answers, empty at their end. The lines told before them have been read then."""
         while True:
             reads, _, _ = select.select([self._from, *self._tells], [], [], PATIENCE)
             if not reads:
                 raise InputError(f'e1gw replay has answered nothing for {PATIENCE} s')
             octets = os.read(self._from.fileno(), PIECE) if self._from in reads else None
-            self._hear()
+            self._read_lines()
             if octets is not None:
                 self.answered(octets)
                 return octets
 
-    def _hear(self) -> None:
+    def _read_lines(self) -> None:
         """Reads the lines that have come."""
         with suppress(BlockingIOError):
             while self._tells:
@@ -84,14 +84,14 @@ class Replay:
                 if not octets:
                     self._tells.clear()
 
-    def told(self) -> list[str]:
+    def take_lines(self) -> list[str]:
         """The lines told since the last call."""
         whole, _, self._told = self._told.rpartition(b'\n')
         lines = whole.decode('ascii', 'replace').split('\n') if whole else []
         self._is_told = self._is_told or lines[-1:] == ['end']
         return lines
 
-    def said(self) -> str:
+    def last_error(self) -> str:
         """The last line on its standard error so far."""
         self._errors.seek(0)
         return self._errors.read().decode(errors='replace').strip().rpartition('\n')[2]
@@ -99,10 +99,10 @@ class Replay:
     def end(self) -> str:
         """The program's message at the session's end, empty if it ended well."""
         self.give(b'')
-        while self.answers():
+        while self.read_answers():
             pass
-        self.told()
-        status, words = self._process.wait(), self.said()
+        self.take_lines()
+        status, words = self._process.wait(), self.last_error()
         self._from.close()
         self._socket.close()
         self._errors.close()

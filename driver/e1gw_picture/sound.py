@@ -89,7 +89,7 @@ def is_silent(octets: bytes) -> bool:
     return octets.count(octets[:1]) == len(octets)
 
 
-def heard(octets: bytes, law: str) -> HeardSamples:
+def sample_speech(octets: bytes, law: str) -> HeardSamples:
     """A sample of a circuit's octets of G.711, which should be in this law."""
     return compared(sound(octets, law), sound(octets, OTHER[law]), is_silent(octets))
 

@@ -55,7 +55,7 @@ class Scale:
 
     def long(self, first: int, last: int) -> str:
         """How long it is from a place to another, with what is missing of the trunk between them."""
-        return duration(last - first + SECOND * self.clock.lost(first, last))
+        return duration(last - first + SECOND * self.clock.seconds_lost(first, last))
 
     def span(self, first: int, last: int) -> str:
         return f'{self.words(first)} to {self.words(last)}, {self.long(first, last)}'

@@ -6,7 +6,7 @@ import time
 from collections.abc import Iterator
 
 from e1gw_common.session import OCTETS_A_SECOND
-from e1gw_common.session_files import InputError, kept
+from e1gw_common.session_files import InputError, open_session
 from .beginning import NO_CONFIG, begin_at
 from .facts import Facts
 from .findings import NO_FAULT, findings
@@ -20,7 +20,7 @@ LAST = 30.0                 # seconds that are looked at
 def last_facts(path: str, circuit: int, seconds: float = LAST) -> Facts:
     """The facts of a circuit, and of the trunk, in the last seconds of a session or of a folder of them: what was
     before is replayed alone. OSError or InputError if it cannot be read."""
-    session = kept(path, round(seconds * OCTETS_A_SECOND))
+    session = open_session(path, round(seconds * OCTETS_A_SECOND))
     if not session.config:
         raise InputError(NO_CONFIG)
     end = os.stat(session.files[-1]).st_mtime

@@ -72,7 +72,7 @@ class UdpCalls:
 
     def socket(self, host: str, port: int = 0) -> socket.socket:
         """A socket at this address, which is closed with the call."""
-        return self.held.enter_context(bound(host, port))
+        return self.held.enter_context(bind_socket(host, port))
 
     def multiframes(self, count: int) -> None:
         """A number of multiframes of the trunk, each way. Each circuit hears its own octet."""
@@ -81,7 +81,7 @@ class UdpCalls:
                 self.exchange.speech[c] = bytearray([spoken(c)] * 16)
             octets = self.exchange.multiframe()
             self.octets += len(octets)
-            self.exchange.hear(self.serve.trunk(octets))
+            self.exchange.receive(self.serve.trunk(octets))
 
     def up(self) -> Wrongs:
         """Calls on all circuits, from seizure to speech. Yields what is wrong."""
@@ -124,7 +124,7 @@ def family_of(host: str) -> socket.AddressFamily:
     return socket.AF_INET6 if ':' in host else socket.AF_INET
 
 
-def bound(host: str, port: int = 0) -> socket.socket:
+def bind_socket(host: str, port: int = 0) -> socket.socket:
     """A socket at this address."""
     found = socket.socket(family_of(host), socket.SOCK_DGRAM)
     found.bind((host, port))

@@ -16,7 +16,7 @@ from enum import Enum
 from e1gw.log_folder import LogFiles
 from e1gw_common.session import MULTIFRAME, Codec, Command, Kind, command_record, records_in, whole_records
 from e1gw_tools.far_exchange import SEIZED, Exchange
-from .datagrams import BITS, PACKET, SECONDS, bound, packets, payload_of
+from .datagrams import BITS, PACKET, SECONDS, bind_socket, packets, payload_of
 from .ports import free_ports
 
 CIRCUITS = range(1, 31)
@@ -53,7 +53,7 @@ class KilledTrunk:
         self.room = held.enter_context(tempfile.TemporaryDirectory(dir='/dev/shm'))
         self.program, self.codec, self.dice, self.dies, self.exchange = program, codec, dice, dies, Exchange()
         self.ports = free_ports(len(CIRCUITS))
-        self.peers = [held.enter_context(bound('127.0.0.1')) for _ in CIRCUITS]
+        self.peers = [held.enter_context(bind_socket('127.0.0.1')) for _ in CIRCUITS]
         with open(self.path('trunk.toml'), 'w', encoding='ascii') as file:
             file.write('law = "A"\nhost = "127.0.0.1"\n')
             for circuit, port, peer in zip(CIRCUITS, self.ports, self.peers):
@@ -83,7 +83,7 @@ class KilledTrunk:
         its.close()
         self.at = self.octets
 
-    def gives(self) -> None:
+    def send_piece(self) -> None:
         """10 ms of the trunk, and a packet for each circuit."""
         head = struct.pack('>BBHII', 0x80, payload_of(self.codec), self.turns & 0xffff, self.turns * PACKET, 7)
         for peer, port in zip(self.peers, self.ports):
@@ -93,7 +93,7 @@ class KilledTrunk:
             self.device.sendall(b''.join(self.exchange.multiframe() for _ in range(PIECE // MULTIFRAME)))
         self.turns += 1
 
-    def takes(self) -> bool:
+    def receive_piece(self) -> bool:
         """What answers that; whether it is all."""
         octets = b''
         with suppress(ConnectionResetError):
@@ -105,20 +105,20 @@ class KilledTrunk:
             self.datagrams.update((circuit, datagram) for datagram, _ in packets(peer))
         return len(octets) == PIECE
 
-    def goes_on(self, pieces: int) -> bool:
+    def run(self, pieces: int) -> bool:
         """So many pieces; whether the program lives then."""
         for _ in range(pieces):
-            self.gives()
-            if not self.takes():
+            self.send_piece()
+            if not self.receive_piece():
                 return False
         return True
 
     def calls(self) -> None:
         """A first program, with thirty calls."""
         self.start()
-        self.goes_on(6)
+        self.run(6)
         self.exchange.pairs.update(dict.fromkeys(CIRCUITS, SEIZED))
-        self.goes_on(12)
+        self.run(12)
         with socket.socket(socket.AF_UNIX) as line:
             line.connect(self.path('control'))
             line.settimeout(0.01)
@@ -131,7 +131,7 @@ class KilledTrunk:
         while True:
             with suppress(TimeoutError):
                 return line.recv(6)
-            self.goes_on(1)
+            self.run(1)
 
     def dies_by(self, death: Death) -> None:
         """Another program, which is killed."""
@@ -149,16 +149,16 @@ class KilledTrunk:
             case Death.LATER:
                 self.start(DIE_IN_CHECKPOINT=self.dice.randrange(1, 5))
                 pieces = TURN
-        if lives := self.goes_on(1):
+        if lives := self.run(1):
             self.seconds.append(time.monotonic() - began)
-            lives = self.goes_on(pieces)
+            lives = self.run(pieces)
         if lives:
             assert death is Death.ANYWHERE, death
-            self.gives()
+            self.send_piece()
             time.sleep(self.dice.random() * 0.002)
-        self.ends(death)
+        self.end(death)
 
-    def ends(self, death: Death) -> None:
+    def end(self, death: Death) -> None:
         """The program is killed if it has not died, and its log is read."""
         if death is Death.ANYWHERE:
             self.process.kill()

@@ -65,7 +65,7 @@ class Service:
         status = self.status()
         return str(status['circuits'][0]['state']) if status else ''
 
-    def said(self) -> str:
+    def printed(self) -> str:
         """What was printed."""
         self.log.seek(0)
         return self.log.read()

@@ -51,27 +51,27 @@ class TieCircuit(CircuitEnd):
         state = State.FAULT if self.stuck else State.BLOCKED if is_blocked else self.state
         return CircuitEnd(self.role, state, self.call, self.over, self.passed)
 
-    def moved(self, state: State, call: str | None = None) -> TieCircuit:
+    def with_state(self, state: State, call: str | None = None) -> TieCircuit:
         """Takes a new state of the line here, with the name of the call that begins in it, if any."""
         begun = call is not None
         return replace(self, state=state, call=call if begun else self.call, over=self.over and not begun, stuck=False)
 
-    def heard(self, far: CircuitEnd) -> TieCircuit:
+    def with_far(self, far: CircuitEnd) -> TieCircuit:
         """Takes the state of the other end."""
         if self.role is Role.INCOMING:
             return replace(self, far=far, passed=self.passed if far.call is None else far.call)
         # An end that has forgotten its call learns it from the other one.
         return replace(self, far=far, call=far.passed if self.call is None else self.call)
 
-    def tried(self, call: str) -> TieCircuit:
+    def with_attempt(self, call: str) -> TieCircuit:
         """The call was passed on to this outgoing end, done or refused."""
         return replace(self, call=call)
 
     def marked_over(self, link: LinkState) -> TieCircuit:
         """Marks a call that cannot be set up as given up until it ends."""
-        return replace(self, over=True) if not self.over and self.ends(link) else self
+        return replace(self, over=True) if not self.over and self.has_lost_other_end(link) else self
 
-    def ends(self, link: LinkState) -> bool:
+    def has_lost_other_end(self, link: LinkState) -> bool:
         """The call at this incoming end has no other end, or none any more."""
         if self.role is not Role.INCOMING or self.state not in OPEN:
             return False
@@ -84,13 +84,13 @@ class TieCircuit(CircuitEnd):
         # Not yet passed on: possible unless that end is blocked or in fault, or another call was answered here.
         return self.state is not State.ACKED or self.far.state in (State.BLOCKED, State.FAULT)
 
-    def wants(self, link: LinkState, waits: bool = False) -> Command | None:
+    def next_command(self, link: LinkState, waits: bool = False) -> Command | None:
         """The command that this end needs now. A call that cannot be set up is reported to its caller, or `waits`."""
         if self.role is Role.OUTGOING:
             return self._outgoing(link)
-        return None if waits and self.state is State.ACKED and self.ends(link) else self._incoming(link)
+        return None if waits and self.state is State.ACKED and self.has_lost_other_end(link) else self._incoming(link)
 
-    def reason(self, command: Command, link: LinkState) -> str | None:
+    def clear_reason(self, command: Command, link: LinkState) -> str | None:
         """Why an outgoing end clears its call."""
         if command is not Command.CLEAR:
             return None
@@ -120,7 +120,7 @@ class TieCircuit(CircuitEnd):
         if self.state is State.BLOCKED:
             free = far is not None and far.state is State.IDLE and not self.kept
             return Command.UNBLOCK if free else None
-        if self.ends(link):
+        if self.has_lost_other_end(link):
             # A clear-back can only follow an answer.
             return {State.ACKED: Command.ANSWER, State.ANSWERED: Command.CLEAR_BACK}.get(self.state)
         return self._followed(far.state) if far is not None and far.call == self.call else None
@@ -133,7 +133,7 @@ class TieCircuit(CircuitEnd):
         return Command.CLEAR_BACK if far is State.CLEAREDBACK and self.state is State.ANSWERED else None
 
 
-def begun(known: TieCircuit | None, fresh: TieCircuit) -> TieCircuit:
+def start_circuit(known: TieCircuit | None, fresh: TieCircuit) -> TieCircuit:
     """A circuit as the trunk has it, with what is known of the same call."""
     if known is not None and known.role is fresh.role and known.call == fresh.call:
         return replace(known, state=fresh.state, stuck=False, kept=fresh.kept)

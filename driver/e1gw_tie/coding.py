@@ -74,7 +74,7 @@ class CodecChanges:
     def _warn(self, why: str) -> None:
         self._tell(Warned(f'calls use their configured codec from the start: {why}'))
 
-    def heard(self, far: str | None) -> None:
+    def on_far_codec(self, far: str | None) -> None:
         """Takes the other site's codec, and warns if it is not this one's."""
         if self._heard != [far]:
             self._heard = [far]
@@ -82,7 +82,7 @@ class CodecChanges:
                 self._warn(f'the other site has --until-answer {far}' if far else
                            'the other site has no --until-answer')
 
-    def stands(self, row: dict[str, Any]) -> None:
+    def on_status_row(self, row: dict[str, Any]) -> None:
         """Takes a circuit's row of the status."""
         circuit = self._circuits.get(row['circuit'])
         if circuit and not circuit.is_changing:
@@ -105,7 +105,7 @@ class CodecChanges:
         circuit.present, circuit.refused = (coding, None) if answer.is_done else (circuit.present, coding)
         self._look(n)
 
-    async def leave(self, idle: Iterable[int]) -> None:
+    async def restore(self, idle: Iterable[int]) -> None:
         """Restores the configured codec of these circuits, before the end."""
         circuits, self._circuits = self._circuits, {}
         for n in idle:

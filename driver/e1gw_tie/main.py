@@ -91,11 +91,11 @@ async def work(tie: Tie, site: Site, path: str | None, http: tuple[str, int] | N
     for each in (signal.SIGINT, signal.SIGTERM, signal.SIGHUP):
         loop.add_signal_handler(each, ends.set)
     loop.set_exception_handler(lambda _, about: site.turned_away(str(about.get('exception') or about['message'])))
-    tasks = [asyncio.create_task(each) for each in (tie.follow(), site.run(), ends.wait(), sign_of_life())]
+    tasks = [asyncio.create_task(each) for each in (tie.run(), site.run(), ends.wait(), sign_of_life())]
     done, _ = await asyncio.wait(tasks, return_when=asyncio.FIRST_COMPLETED)
     with suppress(TimeoutError):
         async with asyncio.timeout(LEAVES):
-            await tie.leave()
+            await tie.restore_codecs()
     for why in filter(None, (task.exception() for task in done)):
         print(f'e1gw-tie: {why}', file=sys.stderr)
         status = 1

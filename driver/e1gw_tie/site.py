@@ -97,13 +97,13 @@ class Site:
         """Keeps the connection up for ever. OSError if it cannot listen at this place."""
         host, port = self.place
         if self.listens:
-            await (await asyncio.start_server(self._came, host, port, limit=MOST, backlog=STRANGERS)).serve_forever()
+            await (await asyncio.start_server(self._accept, host, port, limit=MOST, backlog=STRANGERS)).serve_forever()
         more: dict[str, Any] = {'ssl': self.context, 'server_hostname': self.name or host} if self.context else {}
         while True:
             try:
                 async with asyncio.timeout(HANDSHAKE):
                     streams = await asyncio.open_connection(host, port, limit=MOST, **more)
-                await self._hold(*streams)
+                await self._run_connection(*streams)
             except ssl.SSLError as fault:
                 self.turned_away(str(fault))
             except OSError as fault:
@@ -111,7 +111,7 @@ class Site:
                 self.turned_away(f'{host}:{port}: {why}')
             await asyncio.sleep(AGAIN)
 
-    async def _came(self, reader: asyncio.StreamReader, writer: asyncio.StreamWriter) -> None:
+    async def _accept(self, reader: asyncio.StreamReader, writer: asyncio.StreamWriter) -> None:
         """A connection that comes; another one is closed if it is one too many."""
         task = asyncio.current_task()
         assert task
@@ -121,21 +121,21 @@ class Site:
             self.turned_away('too many connections that have not greeted')
         self._strangers[task] = address_of(writer)
         try:
-            await self._hold(reader, writer)
+            await self._run_connection(reader, writer)
         except asyncio.CancelledError:
             pass                # (it is one too many)
         finally:
             self._strangers.pop(task, None)
 
-    async def _hold(self, reader: asyncio.StreamReader, writer: asyncio.StreamWriter) -> None:
+    async def _run_connection(self, reader: asyncio.StreamReader, writer: asyncio.StreamWriter) -> None:
         """Runs a connection from start to end."""
         why = ''
         try:
             async with asyncio.timeout(HANDSHAKE):
-                greeting = await self._greeted(reader, writer)
+                greeting = await self._exchange_greetings(reader, writer)
             self._take_up(greeting, writer)
             while self._writer is writer:
-                self._tie.heard(await read_one(reader))
+                self._tie.on_message(await read_one(reader))
         except EOFError:
             pass
         except Exception as fault:      # pylint: disable=broad-exception-caught
@@ -143,12 +143,12 @@ class Site:
             why = words_of_fault(fault) if str(fault) else late
         finally:
             if self._writer is writer:
-                self._gone(why or 'closed')
+                self._on_disconnect(why or 'closed')
             elif why:
                 self.turned_away(why)
             writer.transport.abort()
 
-    async def _greeted(self, reader: asyncio.StreamReader, writer: asyncio.StreamWriter) -> Greeting:
+    async def _exchange_greetings(self, reader: asyncio.StreamReader, writer: asyncio.StreamWriter) -> Greeting:
         """Exchanges greetings."""
         if self.listens and self.context:
             # (Not by the server, so that those in the handshake are counted; and before an octet is read.)
@@ -172,20 +172,20 @@ class Site:
             if self._run != greeting.run:
                 raise SiteRefused('another one is connected')
             self._writer.transport.abort()
-            self._gone('closed')
+            self._on_disconnect('closed')
         self._writer, self._run, self._address, self._reasons = writer, greeting.run, address_of(writer), Reasons()
-        self._tie.came(greeting)
-        self._sign(writer)
+        self._tie.on_connect(greeting)
+        self._send_keepalives(writer)
 
-    def _gone(self, why: str) -> None:
+    def _on_disconnect(self, why: str) -> None:
         self._writer = None
-        self._tie.gone(why)
+        self._tie.on_disconnect(why)
 
-    def _sign(self, writer: asyncio.StreamWriter) -> None:
+    def _send_keepalives(self, writer: asyncio.StreamWriter) -> None:
         """Sends keepalives as long as this is the present connection."""
         if self._writer is writer:
             self.send(None)
-            asyncio.get_running_loop().call_later(ALIVE, self._sign, writer)
+            asyncio.get_running_loop().call_later(ALIVE, self._send_keepalives, writer)
 
 
 def address_of(writer: asyncio.StreamWriter) -> str:

@@ -100,4 +100,4 @@ async def serve_status(tie: Tie, path: str | None, http: tuple[str, int] | None)
     if path:
         await asyncio.start_unix_server(came, sock=unix_listener(path, MODE, None), limit=MOST_LINE)
     if http:
-        await asyncio.start_server(WebServer(fresh).came, *http, limit=MOST_LINE)
+        await asyncio.start_server(WebServer(fresh).on_connect, *http, limit=MOST_LINE)

@@ -9,7 +9,7 @@ from typing import Any
 
 from e1gw_common.lines import IN_CALL, Role, State
 from e1gw_common.session import Command
-from .circuit import NO_CALL, CircuitEnd, LinkState, TieCircuit, begun, call_name
+from .circuit import NO_CALL, CircuitEnd, LinkState, TieCircuit, start_circuit, call_name
 from .coding import CodecChanges
 from .events import (CallOver, CommandAnswered, Dark, Light, LinkChanged, ReleaseStuck, SiteCame, SiteGone, Tell,
                      TrunkFollowed, Warned)
@@ -53,21 +53,21 @@ class Tie:
         self._giving_up: asyncio.TimerHandle | None = None
         self.out_of_service = self.far_out_of_service = True
         self.trunk = TrunkLink(options.control, options.hold, self)
-        self.codecs = CodecChanges(options.until_answer, self.trunk, tell, self._look)
+        self.codecs = CodecChanges(options.until_answer, self.trunk, tell, self._update_circuit)
         self.done = Counter[tuple[str, str]]()          # how often which command got which answer
         self.given_up = 0                               # calls that could not be set up, or that were lost
         self._life, self._seizures = '', dict[int, int]()       # of the trunk, and how often each line was seized in it
         self.far: dict[int, CircuitEnd] | None = None           # the other site's states, by its numbers; None: unknown
         self._busy: dict[int, Command] = {}
 
-    async def follow(self) -> None:
+    async def run(self) -> None:
         """Follows the trunk here for ever."""
-        self._hold()
-        await self.trunk.follow()
+        self._hold_calls()
+        await self.trunk.run()
 
     # ---- the trunk here ----
 
-    def lost(self) -> None:
+    def on_trunk_lost(self) -> None:
         self._set_out_of_service(True)
 
     def begin(self, status: dict[str, Any]) -> None:
@@ -78,57 +78,57 @@ class Tie:
             self._seizures[n] = row['seizures']
             known = self.circuits.get(n)
             call = call_name(self._life, self._seizures[n]) if role is Role.INCOMING else known.call if known else None
-            self.circuits[n] = begun(known, TieCircuit(role, state, call, kept=row.get('blocked') is not None))
+            self.circuits[n] = start_circuit(known, TieCircuit(role, state, call, kept=row.get('blocked') is not None))
         states = Counter(str(circuit.state) for circuit in self.circuits.values())
         self.tell(TrunkFollowed(dict(sorted(states.items()))))
         self.codecs.begin(status)
         self._join()
-        self.stands(status)
+        self.on_status(status)
         self._send_all()
 
-    def stands(self, status: dict[str, Any]) -> None:
+    def on_status(self, status: dict[str, Any]) -> None:
         """Takes the status of the trunk, makes up for missed events, and finds releases that are not followed."""
         self._set_out_of_service(is_out_of_service(status))
         for row in status['circuits']:
             n = row['circuit']
-            self.codecs.stands(row)
-            self._put(n, replace(self.circuits[n], kept=row.get('blocked') is not None))
+            self.codecs.on_status_row(row)
+            self._set_circuit(n, replace(self.circuits[n], kept=row.get('blocked') is not None))
             if n not in self._busy:
                 circuit, state, self._seizures[n] = self.circuits[n], State(row['state']), row['seizures']
                 call = call_name(self._life, self._seizures[n]) if circuit.role is Role.INCOMING else circuit.call
                 if state is not circuit.state or call != circuit.call:
-                    circuit = circuit.moved(state, None if call == circuit.call else call)
+                    circuit = circuit.with_state(state, None if call == circuit.call else call)
                 if state is State.RELEASING and row['for'] >= STUCK and not circuit.stuck:
                     circuit = replace(circuit, stuck=True)
                     self.tell(ReleaseStuck(n))
-                self._put(n, circuit)
+                self._set_circuit(n, circuit)
 
-    def told(self, event: Told) -> None:
+    def on_event(self, event: Told) -> None:
         """Takes an event of the trunk."""
         match event:
             case {'event': 'state', 'circuit': n, 'was': was, 'state': state}:
-                self._state(n, State(was), State(state))
+                self._set_state(n, State(was), State(state))
             case {'event': 'codec', 'circuit': n}:
-                self.codecs.stands(event)
-                self._look(n)
+                self.codecs.on_status_row(event)
+                self._update_circuit(n)
             case {'event': 'alarm' | 'remote alarm', 'on': True} | {'event': 'trunk lost' | 'stalled'}:
                 self._set_out_of_service(True)
 
-    def _state(self, n: int, was: State, state: State) -> None:
+    def _set_state(self, n: int, was: State, state: State) -> None:
         circuit, call = self.circuits[n], None
         if circuit.role is Role.INCOMING and state is State.ACKED and was is State.IDLE:
             self._seizures[n] += 1
             call = call_name(self._life, self._seizures[n])
         if self._busy.get(n) is Command.SEIZE and state is State.SEIZED and circuit.far:
-            circuit = circuit.tried(circuit.far.call or NO_CALL)
-        self._put(n, circuit.moved(state, call))
+            circuit = circuit.with_attempt(circuit.far.call or NO_CALL)
+        self._set_circuit(n, circuit.with_state(state, call))
 
-    def _put(self, n: int, circuit: TieCircuit) -> None:
+    def _set_circuit(self, n: int, circuit: TieCircuit) -> None:
         """Takes a circuit's new values: sends them to the other site and acts on them."""
         before, self.circuits[n] = self.circuits[n], circuit
         if before.end() != circuit.end():
             self._send(n)
-        self._look(n)
+        self._update_circuit(n)
 
     # ---- commands ----
 
@@ -139,7 +139,7 @@ class Tie:
             return LinkState.GIVEN_UP
         return self.link
 
-    def _look(self, n: int) -> None:
+    def _update_circuit(self, n: int) -> None:
         """Gives a circuit the codec and the command that it needs."""
         if n not in self.there:
             return
@@ -153,16 +153,16 @@ class Tie:
             self.tell(CallOver(n, marked_over.call, link.value))
             self.circuits[n] = marked_over
             self._send(n)
-        command = marked_over.wants(link, self.options.waits)
+        command = marked_over.next_command(link, self.options.waits)
         if command is not None:
             self._busy[n] = command
-            self.trunk.begin(self._do(n, command, marked_over.reason(command, link)))
+            self.trunk.begin(self._send_command(n, command, marked_over.clear_reason(command, link)))
 
     def _look_at_all(self) -> None:
         for n in list(self.circuits):
-            self._look(n)
+            self._update_circuit(n)
 
-    async def _do(self, n: int, command: Command, why: str | None) -> None:
+    async def _send_command(self, n: int, command: Command, why: str | None) -> None:
         loop = asyncio.get_running_loop()
         far, began = self.circuits[n].far, loop.time()
         auto = ' auto' * (command in (Command.BLOCK, Command.UNBLOCK))      # (no operator's)
@@ -173,15 +173,15 @@ class Tie:
         self.done[command.word, answer.short] += 1
         self.tell(CommandAnswered(n, command.word, answer.short, round((loop.time() - began) * 1000, 2), why))
         if command is Command.SEIZE:
-            self._put(n, self.circuits[n].tried(far.call or NO_CALL if far else NO_CALL))
+            self._set_circuit(n, self.circuits[n].with_attempt(far.call or NO_CALL if far else NO_CALL))
         if not answer.is_done or command is Command.ANSWER:
             await asyncio.sleep(ANSWER_LASTS if answer.is_done else AGAIN)
         del self._busy[n]
-        self._look(n)
+        self._update_circuit(n)
 
-    async def leave(self) -> None:
+    async def restore_codecs(self) -> None:
         """Restores the configured codec of circuits without a call, before the end."""
-        await self.codecs.leave(n for n, circuit in self.circuits.items() if circuit.state not in IN_CALL)
+        await self.codecs.restore(n for n, circuit in self.circuits.items() if circuit.state not in IN_CALL)
 
     # ---- the link ----
 
@@ -194,7 +194,7 @@ class Tie:
                 self.site.send(SiteState(on, {}))
             self._look_at_link()
 
-    def _hold(self) -> None:
+    def _hold_calls(self) -> None:
         """Calls are kept for some seconds without the other end."""
         self._giving_up = asyncio.get_running_loop().call_later(self.options.hold, self._set_link, LinkState.GIVEN_UP)
 
@@ -206,7 +206,7 @@ class Tie:
             if self._giving_up:
                 self._giving_up.cancel()
             if not good:
-                self._hold()
+                self._hold_calls()
             self._set_link(LinkState.GOOD if good else LinkState.LOST)
 
     def _set_link(self, state: LinkState) -> None:
@@ -216,13 +216,13 @@ class Tie:
 
     # ---- the other site ----
 
-    def came(self, greeting: Greeting) -> None:
+    def on_connect(self, greeting: Greeting) -> None:
         self.there = agreed(self.options.pairs, greeting.pairs)
         left = sorted(set(agreed(self.options.pairs, None)) - set(self.there)) if greeting.pairs else []
         self.tell(SiteCame(len(self.there), tuple(left)))
         self._send_all()
 
-    def heard(self, message: Message) -> None:
+    def on_message(self, message: Message) -> None:
         """Takes what the other site says; a keepalive is nothing."""
         if not isinstance(message, SiteState):
             return
@@ -230,18 +230,18 @@ class Tie:
             self.far_out_of_service = message.out_of_service
         if message.all:
             self.far = dict(message.ends)
-            self.codecs.heard(message.until_answer)
+            self.codecs.on_far_codec(message.until_answer)
             self._join()
         elif self.far is not None:
             self.far |= message.ends
             for here, there in self.there.items():
                 if there in message.ends and here in self.circuits:
-                    self._put(here, self.circuits[here].heard(message.ends[there]))
+                    self._set_circuit(here, self.circuits[here].with_far(message.ends[there]))
         self._look_at_link()
         if message.all:
             self._look_at_all()
 
-    def gone(self, why: str) -> None:
+    def on_disconnect(self, why: str) -> None:
         self.tell(SiteGone(why))
         self.far = None
         self._look_at_link()
@@ -251,7 +251,7 @@ class Tie:
         alike, far = [], self.far or {}
         for here, end in ((here, far[there]) for here, there in self.there.items()
                           if here in self.circuits and there in far):
-            before, self.circuits[here] = self.circuits[here], self.circuits[here].heard(end)
+            before, self.circuits[here] = self.circuits[here], self.circuits[here].with_far(end)
             if before.end() != self.circuits[here].end():
                 self._send(here)
             if end.role is before.role:

@@ -33,7 +33,7 @@ class TrunkLink:
         self._asked: deque[asyncio.Future[str]] = deque()
         self.begin = Tasks().begin                      # to give a command
 
-    async def follow(self) -> None:
+    async def run(self) -> None:
         """Keeps the connection up for ever, and tells each reason once why it is not."""
         before = ''
         while True:
@@ -42,7 +42,7 @@ class TrunkLink:
                 reader, self._writer = await asyncio.open_unix_connection(self._path, limit=MOST)
                 async with asyncio.TaskGroup() as group:
                     group.create_task(self._read(reader))
-                    await self._look()
+                    await self._poll()
             except* (OSError, EOFError, ValueError, KeyError, TypeError) as faults:
                 fault = faults.exceptions[0]
                 why = words_of_fault(fault, self._path) or type(fault).__name__
@@ -54,10 +54,10 @@ class TrunkLink:
             if why != before:
                 self._tell(TrunkGone(why))
             before = why
-            self._tie.lost()
+            self._tie.on_trunk_lost()
             await asyncio.sleep(SOON)
 
-    async def _look(self) -> None:
+    async def _poll(self) -> None:
         """Looks at the trunk again and again, which ends calls and blocks circuits if this program dies."""
         await self.ask('events')
         said = await self.ask(f'on-loss block {self._hold:g} alive {ALIVE:g}')
@@ -67,7 +67,7 @@ class TrunkLink:
         while True:
             status = json.loads(await self.ask('status json'))
             if self.is_up:
-                self._tie.stands(status)
+                self._tie.on_status(status)
             elif status['life'] is not None and is_known(status):       # also how often each line was seized
                 self.is_up = True
                 self._tie.begin(status)
@@ -81,7 +81,7 @@ class TrunkLink:
                 line = octets.decode(errors='replace').rstrip('\n')
                 if (event := event_of(line)) is not None:
                     if self.is_up:
-                        self._tie.told(event)
+                        self._tie.on_event(event)
                 elif line:
                     last = line                         # (what is asked here has an answer of one)
                 elif self._asked:

@@ -57,7 +57,7 @@ class EndedCall:
     end: float
 
     @classmethod
-    def of(cls, lines: list[CallLine]) -> 'EndedCall':
+    def from_lines(cls, lines: list[CallLine]) -> 'EndedCall':
         """That of its lines, the last one first."""
         first, last = lines[-1], lines[0]
         end = second_of(last.ended)
@@ -93,16 +93,16 @@ class CircuitSide:
             if record.kind is Kind.TRUNK:
                 self.ends.append(self._placed.place)
                 for place, pairs in self._frames.take(record.body):
-                    self._hear(place, pairs)
+                    self._add_octets(place, pairs)
 
-    def _hear(self, place: int, pairs: bytes) -> None:
+    def _add_octets(self, place: int, pairs: bytes) -> None:
         """Puts the octets of the time slot of some frames where they belong; what is missing before is silence."""
         slot = self.circuit + (self.circuit > 15)
         at = (place + slot - self.begin) // FRAME
         self.speech += self.silence * (at - len(self.speech))
         self.speech[at:at + len(pairs) // FRAME] = pairs[slot::FRAME]
 
-    def heard(self, place: int, count: int) -> bytes:
+    def octets_at(self, place: int, count: int) -> bytes:
         """So many octets of speech from a place on."""
         at = (place - self.begin) // FRAME
         octets = bytes(self.speech[at:at + count])
@@ -184,7 +184,7 @@ def found(name: str, folder: str | None, calls: str | None) -> tuple[EndedCall, 
         if not folder and not os.path.lexists(each + 'calls.csv') and os.access(each, os.X_OK):
             continue
         if lines := [line for line in read_calls(path, name) if line.call == name]:
-            return EndedCall.of(lines), each
+            return EndedCall.from_lines(lines), each
     raise InputError(f'{", ".join(files) or UNITS}: no line has {name} (a call has one once it has ended)')
 
 
@@ -234,7 +234,7 @@ class CallCut:
                 count = (each.place - at) // FRAME
                 piece = bytearray(2 * count)
                 for n, side in enumerate((self.reading.given, self.reading.answered)):
-                    piece[n::2] = side.heard(at, count)
+                    piece[n::2] = side.octets_at(at, count)
                 both += piece + silence * (2 * round(each.lost * SAMPLES_A_SECOND))
                 at += count * FRAME
         return both

@@ -157,8 +157,8 @@ def taken_ports(plan: Plan, is_asked: bool, others: NamedPorts, own: NamedPorts)
 def free_trunk(asked: argparse.Namespace) -> int:
     """The first trunk of the machine whose ports are free; files that are written over keep theirs."""
     names = {asked.write, asked.tie}
-    own = NamedPorts.of(asked.folder, trunks_in(asked.folder) & names, '')
-    others = NamedPorts.of(asked.folder, trunks_in(asked.folder) - names, asked.host)
+    own = NamedPorts.from_files(asked.folder, trunks_in(asked.folder) & names, '')
+    others = NamedPorts.from_files(asked.folder, trunks_in(asked.folder) - names, asked.host)
 
     def is_free(trunk: int) -> bool:
         are_asked = asked.first_local, asked.first_peer

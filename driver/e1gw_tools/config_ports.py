@@ -37,7 +37,7 @@ class NamedPorts:
     http: frozenset[int] = frozenset()
 
     @classmethod
-    def of(cls, folder: str, names: Iterable[str], host: str) -> NamedPorts:
+    def from_files(cls, folder: str, names: Iterable[str], host: str) -> NamedPorts:
         """Those of the files of some names, as far as they can be read, with the ports of peers at a host."""
         rtp, http = set[int](), set[int]()
         for path in (os.path.join(folder, name) for name in names):

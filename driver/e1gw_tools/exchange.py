@@ -51,7 +51,7 @@ class TypedLines:
         self._rest = b''
         self._more = True       # can come
 
-    def taken(self) -> list[str]:
+    def read_lines(self) -> list[str]:
         """Reads what there is; its lines."""
         if not self._more or not select.select([sys.stdin], [], [], 0)[0]:
             return []
@@ -85,7 +85,7 @@ def receive(line: socket.socket, exchange: Exchange) -> bool:
         heard += piece
     before = dict(exchange.signals)
     exchange.heard.clear()
-    exchange.hear(heard)
+    exchange.receive(heard)
     exchange.speech.update(exchange.heard)
     for circuit, pair in exchange.signals.items():
         if before and before[circuit] != pair:
@@ -125,7 +125,7 @@ def carry(line: socket.socket, typed: TypedLines) -> None:
             if not receive(line, exchange):
                 return
             called.step(exchange)
-            for each in typed.taken():
+            for each in typed.read_lines():
                 obey(each, exchange)
             due += STEP
             time.sleep(max(0, due - time.monotonic()))

@@ -35,7 +35,7 @@ class ServeProcess:
             self.input.write(given)
             self.input.flush()
         except BrokenPipeError:
-            self._gone()
+            self._on_exit()
 
     def answer(self) -> bytes:
         """The body of the next answer, behind what is sent before it."""
@@ -44,14 +44,14 @@ class ServeProcess:
             self.answered.append(head + body)
             if head[0] != Kind.DATAGRAM:
                 return body
-        self._gone()
+        self._on_exit()
 
     def passes(self, record: bytes) -> bytes:
         """Gives it a record; returns the body of the answer."""
         self.give(record)
         return self.answer()
 
-    def _gone(self) -> NoReturn:
+    def _on_exit(self) -> NoReturn:
         raise SystemExit(f'e1gw serve has ended with status {self.process.wait()}')
 
     def trunk(self, octets: bytes) -> bytes:
@@ -104,7 +104,7 @@ class Exchange:
             out[slot_of(circuit)::FRAME] = piece.ljust(16, self.silence)
         return bytes(out)
 
-    def hear(self, octets: bytes) -> None:
+    def receive(self, octets: bytes) -> None:
         """Takes what the gateway sent: finds its frames and multiframes once, then reads each multiframe."""
         self.received += octets
         if not self.aligned:

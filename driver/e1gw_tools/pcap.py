@@ -37,7 +37,7 @@ from e1gw_common.packets import BadCapture, packets
 from e1gw_common.session import (CIRCUITS, SAMPLES_A_SECOND, BadPacket, BadSession, Kind, Record, Repetitions,
                                  datagram_record, packet_of, records)
 from e1gw_common.session_clock import SessionClock, second_of
-from e1gw_common.session_files import InputError, kept
+from e1gw_common.session_files import InputError, open_session
 
 NAME = os.path.basename(sys.argv[0])    # in the package e1gw-pcap
 GATEWAY, PEER = bytes([192, 0, 2, 1]), bytes([192, 0, 2, 2])  # RFC 5737, addresses for examples
@@ -80,7 +80,7 @@ class StampTimes:
         self.streams: dict[tuple[int, int], tuple[int, int]] = {}
         self.last: dict[int, float] = {}
 
-    def of(self, record: Record) -> float:
+    def time_of(self, record: Record) -> float:
         """That of a datagram; one that is no RTP comes with the one before it."""
         with suppress(BadPacket):
             packet = packet_of(record.body)
@@ -154,9 +154,9 @@ def timed(octets: Iterable[bytes], clock: SessionClock, went: bool) -> Iterator[
     for record in records(octets):
         yield from (Timed(clock.second(place), each, went) for place, each in placed.take(record))
         if not placed.place and len(placed.held) >= MOST_HELD:
-            yield from (Timed(clock.second(0) + stamps.of(each), each, went) for each in placed.held)
+            yield from (Timed(clock.second(0) + stamps.time_of(each), each, went) for each in placed.held)
             placed.held.clear()
-    yield from (Timed(clock.second(placed.place) + (0.0 if placed.place else stamps.of(each)), each, went)
+    yield from (Timed(clock.second(placed.place) + (0.0 if placed.place else stamps.time_of(each)), each, went)
                 for each in placed.held)
 
 
@@ -257,7 +257,7 @@ def write_capture(packets: Iterable[tuple[float, bytes]], sink: BinaryIO) -> Non
 
 def write_session(asked: argparse.Namespace, sink: BinaryIO) -> None:
     """Writes the capture of a session, and of what was given to the gateway."""
-    answers, given = kept(asked.file or '-'), kept(asked.given) if asked.given else None
+    answers, given = open_session(asked.file or '-'), open_session(asked.given) if asked.given else None
     dated = given if given and given.begin is not None else answers
     clock = dated.clock if asked.begin is None else replace(dated.clock, begin=asked.begin)
     streams = [timed(each.octets(), clock, each is answers) for each in (answers, given) if each]
@@ -289,7 +289,7 @@ def write_records(source: BinaryIO, asked: int | None, sink: BinaryIO) -> None:
         print(f'{NAME}: skipped {passed} of {every} packets', file=sys.stderr)
 
 
-def opened(file: str | None) -> BinaryIO:
+def open_input(file: str | None) -> BinaryIO:
     """A file, or standard input."""
     return open(file, 'rb') if file else sys.stdin.buffer
 
@@ -311,7 +311,7 @@ def work(asked: argparse.Namespace) -> None:
     """Does what was asked for."""
     sink = sys.stdout.buffer
     if asked.back:
-        write_records(opened(asked.file), asked.circuit, sink)
+        write_records(open_input(asked.file), asked.circuit, sink)
     else:
         write_session(asked, sink)
     sink.flush()

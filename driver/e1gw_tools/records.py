@@ -61,7 +61,7 @@ def shown_answer(record: Record) -> str:
     return f'{asked} done' if refusal is None else f'{asked} refused: {int(refusal)} {refusal.label}'
 
 
-def shown(record: Record, place: int) -> str:
+def format_record(record: Record, place: int) -> str:
     """A record as one line; its octets are at this place of the trunk."""
     front = f'{record.kind.letter} {record.circuit:2} '
     if record.kind is Kind.TRUNK:
@@ -78,7 +78,7 @@ def shown(record: Record, place: int) -> str:
 def print_records(source: Iterator[bytes], place: int) -> None:
     """Prints records, the first of them at this place of the trunk."""
     for record in records(source):
-        print(shown(record, place))
+        print(format_record(record, place))
         place += len(record.body) if record.kind is Kind.TRUNK else 0
 
 
@@ -115,7 +115,7 @@ def kept_pieces(source: Iterator[bytes]) -> Iterator[bytes]:
     return (record.body for record in records(source) if record.kind is Kind.TRUNK)
 
 
-def hear(pieces: Iterator[bytes], circuit: int, law: str, sink: BinaryIO) -> None:
+def write_speech(pieces: Iterator[bytes], circuit: int, law: str, sink: BinaryIO) -> None:
     """Writes what octets of a trunk have in the time slot of a circuit."""
     frames, heard = FrameSearch(), bytearray()
     for piece in pieces:
@@ -164,7 +164,7 @@ def work(asked: argparse.Namespace) -> None:
         return read_session(asked, octets_of(asked.file) if asked.file else pieces(sys.stdin.buffer))
     with open(asked.file, 'rb') if asked.file else sys.stdin.buffer as source:
         if asked.circuit:
-            hear(raw_pieces(source, asked.reverse), asked.circuit, asked.law, sys.stdout.buffer)
+            write_speech(raw_pieces(source, asked.reverse), asked.circuit, asked.law, sys.stdout.buffer)
         else:
             sys.stdout.buffer.writelines(map(trunk_record, raw_pieces(source, asked.reverse, asked.size)))
 
@@ -172,7 +172,7 @@ def work(asked: argparse.Namespace) -> None:
 def read_session(asked: argparse.Namespace, source: Iterator[bytes]) -> None:
     """Does it with a session."""
     if asked.circuit:
-        hear(kept_pieces(source), asked.circuit, asked.law, sys.stdout.buffer)
+        write_speech(kept_pieces(source), asked.circuit, asked.law, sys.stdout.buffer)
     elif asked.to_raw:
         sys.stdout.buffer.writelines(kept_pieces(source))
     elif asked.until is not None or asked.begin is not None:

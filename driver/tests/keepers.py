@@ -165,7 +165,7 @@ class KeeperCase(support.FolderCase):
         for _ in range(count):
             back = support.read_from(self.device.line, MULTIFRAME)
             self.heard.append(back)
-            self.device.exchange.hear(back)
+            self.device.exchange.receive(back)
             self.peers.take()
 
     def client(self) -> socket.socket:
@@ -219,7 +219,7 @@ class KeeperCase(support.FolderCase):
         self.assertIn(len(back), (0, MULTIFRAME))
         if back:
             self.heard.append(back)
-            self.device.exchange.hear(back)
+            self.device.exchange.receive(back)
         elif is_known:
             self.heard.append(None)     # its answer is lost
         else:

@@ -50,10 +50,10 @@ class PlainTrunk(WatchedTrunk):
     def session(self) -> str:
         return ''
 
-    def begun(self) -> int:
+    def start_octet(self) -> int:
         return self.first
 
-    async def ends(self) -> CommandAnswer:
+    async def is_ending(self) -> CommandAnswer:
         return DONE
 
     async def reload(self, *how: str) -> CommandAnswer:

@@ -222,7 +222,7 @@ class BilledTrunk:
 
     def tells(self, event: Event) -> None:
         if isinstance(event, LineChanged) and self.status:
-            self.status.calls.took(event)
+            self.status.calls.on_state_change(event)
 
     def note(self) -> None:
         self.writes()
@@ -253,7 +253,8 @@ class BilledTrunk:
             if self.connected is not self.program:
                 self.program.unheard = self.state_at(self.m, self.program.start)
                 told = self.m * MULTIFRAME - self.program.start
-                now(self.status.came(self.program, f'{self.program.pid}', self.program.begun + told))    # type: ignore
+                place = self.program.begun + told
+                now(self.status.on_connect(self.program, f'{self.program.pid}', place))    # type: ignore
                 self.connected, self.unheard = self.program, 0
             self.hears()
             while self.waiting:
@@ -267,8 +268,8 @@ class BilledTrunk:
         program, status = self.program, self.status
         assert status
         while program.unheard or not program.lives:
-            if not status.takes(program, 1 << 16):        # type: ignore[arg-type]
-                status.left()
+            if not status.read_lines(program, 1 << 16):        # type: ignore[arg-type]
+                status.on_disconnect()
                 self.connected = None
                 return
 
@@ -297,7 +298,7 @@ class BilledTrunk:
         return b''.join(b'at %d\n%s' % (m * MULTIFRAME - begun, told) for m in range(first + 1, last + 1)
                         if (told := self.session.told[m].changes))
 
-    async def told_again(self, version: object, pairs: list[LogPair], folder: str) -> bytes:
+    async def replay_reports(self, version: object, pairs: list[LogPair], folder: str) -> bytes:
         """What a replay of the log would tell."""
         begun = int(pairs[0].state)
         first, last = begun // MULTIFRAME, self.places.index(pairs[-1].end)
@@ -398,7 +399,7 @@ class BillTests(PropertyCase):
             trunk.writes()
             put_file(path, octets)
         for module, name, its in ((statuses, 'time', clock), (readers, 'time', clock), (call_names, 'put_file', puts),
-                                  (trunks, 'told_again', trunk.told_again),
+                                  (trunks, 'replay_reports', trunk.replay_reports),
                                   (statuses, 'read_config', lambda path: self.session.tables)):
             held.enter_context(mock.patch.object(module, name, its))
         trunk.serves()

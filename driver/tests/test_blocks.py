@@ -44,7 +44,7 @@ class KeptInMemory(KeptBlocks):
 
     def __init__(self, circuits: frozenset[int] = frozenset()) -> None:
         super().__init__('')
-        self.now = BlockedCircuits().only(circuits)
+        self.now = BlockedCircuits().replace_all(circuits)
 
     async def put(self, now: BlockedCircuits) -> str:
         self.now = now
@@ -174,7 +174,7 @@ class Trunk:
     async def goes(self, n: int) -> None:
         """The trunk moves to the machine that knew of another circuit, and was told of these."""
         other = KeptInMemory(frozenset((n,)))
-        await other.put(other.now.only([*self.watch.kept.now.circuits]))
+        await other.put(other.now.replace_all([*self.watch.kept.now.circuits]))
         self.begin(other)
 
 
@@ -233,7 +233,7 @@ class KeptTests(support.FolderCase, unittest.IsolatedAsyncioTestCase):
     async def test_file(self) -> None:
         """The last one of several at once is in it; what is none, or cannot be written, ends nothing."""
         kept = KeptBlocks(self.path('blocked'))
-        told = await asyncio.gather(*(kept.put(BlockedCircuits().taken(range(1, n))) for n in (3, 31, 5)))
+        told = await asyncio.gather(*(kept.put(BlockedCircuits().add(range(1, n))) for n in (3, 31, 5)))
         self.assertEqual((told, json.loads(support.text_of(self.path('blocked')))), ([''] * 3, [1, 2, 3, 4]))
         self.assertEqual([*KeptBlocks(self.path('blocked')).now.circuits], [1, 2, 3, 4])
         with mock.patch.object(os, 'fsync') as synced:
@@ -265,7 +265,7 @@ class BlockedTrunkTests(unittest.TestCase):
             ('idle', None)])
         words = 'blocked by the operator: 3-4; blocking, until their calls have ended: 1-2'
         self.assertIn(f'\n{words}\n', world.ask('status'))
-        self.assertTrue(TrunkLine.of('west', world.told()).state.endswith(f'; {words}'))
+        self.assertTrue(TrunkLine.from_status('west', world.told()).state.endswith(f'; {words}'))
         self.assertTrue(world.ask('status 3').endswith('\nblocked by the operator: 3'))
         self.assertIn('e1gw_circuit_blocked{circuit="1"} 1\n', exposition(world.told()))
         self.assertEqual(json.loads(support.text_of(world.path('state.blocked'))), [1, 2, 3, 4])

@@ -173,7 +173,7 @@ class EndedCallTests(unittest.TestCase):
                         '2027-01-15T08:00:30.000Z', 'gateway', 'pcma', '1', '2', '0', '0', '1f-3-1')
         bare, later = line._replace(seized='', answered=''), line._replace(seized='', ended='2027-01-15T08:01:00.000Z')
         for lines, begin, end in (([line], 1, 30), ([later, line], 1, 60), ([later], 2, 60), ([bare], 30, 30)):
-            self.assertEqual(EndedCall.of(lines), EndedCall('1f-3-1', 'west', 3, BEGIN + begin, BEGIN + end))
+            self.assertEqual(EndedCall.from_lines(lines), EndedCall('1f-3-1', 'west', 3, BEGIN + begin, BEGIN + end))
 
     def test_where_it_began(self) -> None:
         """Of all calls of a line the one that its times are of, though they are somewhat late."""

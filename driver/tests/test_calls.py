@@ -22,7 +22,7 @@ class CallEndTests(unittest.TestCase):
         rows, lines, moments = list[str](), {1: Line(1)}, iter((1_000_000_000.0, 1_000_000_001.9996))
         calls = CallLog('west', lines, DatagramCounts(), rows.append, lambda: next(moments))
         for was, state in ((State.IDLE, State.SEIZED), (State.SEIZED, State.RELEASING), (State.RELEASING, State.IDLE)):
-            calls.took(LineChanged(1, Role.OUTGOING, was, state, 100))
+            calls.on_state_change(LineChanged(1, Role.OUTGOING, was, state, 100))
             lines[1].unacknowledged += state is State.SEIZED
         self.assertEqual(rows, [])                  # (they are noted first)
         calls.give()
@@ -45,7 +45,7 @@ class CallEndTests(unittest.TestCase):
         for since, last, at, circuits, changes in (
                 (108, 108, 8, first, b''), (100, 700, 8, first, more[:17]), (50, 5000, 8, first, more),
                 (612, 611, 512, then, b''), (700, 2000, 600, then, more[17:])):
-            self.assertEqual(MissedReports(since, False, 100, 1124, text).parts(last), (
+            self.assertEqual(MissedReports(since, False, 100, 1124, text).messages_for(last), (
                 b'e1gw tell 1 A\nat %d\nalarms 0\n' % at, circuits, b'now\n' + changes), (since, last))
 
 
@@ -61,14 +61,14 @@ class CalledTrunk:
         self.numbered = set[int]()              # circuits of whose calls it is known which they are
         self.calls = CallLog('west', self.lines, self.counts, self.put, lambda: self.day)
         self.takes(1, 4)
-        self.calls.begun('life')
+        self.calls.on_session_start('life')
         self.since = {n: self.numbers(n) for n in self.lines}
         for n, line in self.lines.items():
             self.begins(n, '') if line.state in IN_CALL else None
 
     def numbers(self, n: int) -> list[int]:
         its = self.counts.circuits[n]
-        return [its.sent, its.admitted, its.numbers.lost, its.counts().get('Late', 0), its.discarded()]
+        return [its.sent, its.admitted, its.numbers.count_lost, its.counts().get('Late', 0), its.discarded()]
 
     def put(self, line: str) -> None:
         row = dict(zip(FIELDS, next(csv.reader([line]))))
@@ -106,7 +106,7 @@ class CalledTrunk:
             ours = (n == 1) is (was is not State.CLEAREDBACK)
             self.ends(n, away or ('fault' if state is State.FAULT else 'not acknowledged' if is_refused else
                                   'gateway' if ours else 'exchange'), 'before' if away else line.codec)
-        self.calls.took(LineChanged(n, Role.OUTGOING, was, state, 0, True if away else None))
+        self.calls.on_state_change(LineChanged(n, Role.OUTGOING, was, state, 0, True if away else None))
         self.calls.give()
 
     def leaves(self, states: tuple[State, State], is_reload: bool) -> None:
@@ -115,7 +115,7 @@ class CalledTrunk:
             line.codec = 'before'
         self.takes(1, 9)
         self.counts.ended, self.before = 'nobody tells', {n: self.numbers(n) for n in self.lines}
-        self.calls.left()
+        self.calls.on_disconnect()
         self.takes(2, 3)
         if is_reload:
             self.counts.circuits[1], self.calls.changed = CircuitCounts(), frozenset((1,))
@@ -125,7 +125,7 @@ class CalledTrunk:
             if state is not line.state:
                 self.moves(line.circuit, state, 'reload' if is_reload and line.circuit == 1 else 'unwatched')
         self.counts.ended, self.calls.changed = None, frozenset()
-        self.calls.begun('life')
+        self.calls.on_session_start('life')
         self.numbered = {*self.open}
         self.since = {n: [min(each) for each in zip(its, self.numbers(n))] for n, its in self.since.items()}
 
@@ -145,7 +145,7 @@ class CalledTrunk:
             if is_new:
                 self.begins(n, '')
                 begun.add(n)
-        self.calls.begun('life')
+        self.calls.on_session_start('life')
         self.calls.give()
         self.numbered = {*self.open} - begun
 
@@ -154,7 +154,7 @@ class CalledTrunk:
         late = tuple(2 * (reason.label == 'Late') for reason in REASONS)
         its.sent, its.admitted = its.sent + count, its.admitted + 1
         its.numbers.before += count // 2
-        its.told = ToldCounts(refused=late).behind(its.told)
+        its.told = ToldCounts(refused=late).added_to(its.told)
 
     def stops(self) -> None:
         for n in [*self.open]:
@@ -174,7 +174,7 @@ class CallPropertyTests(PropertyCase):
                 trunk.day += 1
                 getattr(trunk, what)(*words)
                 going = {f'life-{n}-{trunk.lines[n].seizures}' for n in trunk.open}
-                assert {line.call for line in trunk.calls.going()} == going
+                assert {line.call for line in trunk.calls.open_calls()} == going
             trunk.stops()
         self.holds(check, states, st.lists(st.one_of(
             st.tuples(st.just('moves'), st.tuples(circuit, state)),

@@ -198,7 +198,7 @@ class CardWatchTests(unittest.TestCase):
         self.span = replace(self.span, alarms=Alarm(4))
         watch = self.watch(8 | 4)
         watch.look(3)
-        self.assertEqual((self.words(), watch.told), (['card: RED alarm over'], 4))
+        self.assertEqual((self.words(), watch.as_told), (['card: RED alarm over'], 4))
 
     def test_status(self) -> None:
         """Nothing of what is no card, nor of one whose driver does not say it."""

@@ -49,9 +49,9 @@ class ClearingTests(unittest.TestCase):
         cleared, now = list[float](), 100.0
         watch = DisconnectWatch(DisconnectPolicy(), lambda why, blocks: cleared.append(now))
         watch.look(now)
-        watch.asked('one', ['clear', '3', 'alive', '1'], now)
-        watch.asked('other', ['clear', '9', 'alive', '7'], now)
-        watch.left('other', now)
+        watch.request('one', ['clear', '3', 'alive', '1'], now)
+        watch.request('other', ['clear', '9', 'alive', '7'], now)
+        watch.on_disconnect('other', now)
         for _ in range(80):
             now += LOOK
             watch.look(now)
@@ -62,9 +62,9 @@ class ClearingTests(unittest.TestCase):
             trunk, reader = mock.Mock(), asyncio.StreamReader()
             reader.feed_data(b'\nhelp\n')
             reader.feed_eof()
-            await CommandServer(trunk).came(reader, mock.Mock(drain=mock.AsyncMock()))
+            await CommandServer(trunk).on_connect(reader, mock.Mock(drain=mock.AsyncMock()))
             return [name for name, *_ in trunk.disconnects.mock_calls]
-        self.assertEqual(asyncio.run(comes()), ['said', 'said', 'left'])
+        self.assertEqual(asyncio.run(comes()), ['on_message', 'on_message', 'on_disconnect'])
 
 
 class HeardClient(NamedTuple):
@@ -131,10 +131,10 @@ class ClearingPropertyTests(PropertyCase):
             for what, how, words in [*chosen, *ends, (32, LOOK, '')]:
                 if what == 'asks':
                     clients.asks(how, words.split(), now)
-                    self.assertTrue(watch.asked(how, words.split(), now).is_done)
+                    self.assertTrue(watch.request(how, words.split(), now).is_done)
                 elif what in ('says', 'leaves'):
                     getattr(clients, what)(how, now)
-                    {'says': watch.said, 'leaves': watch.left}[what](how, now)
+                    {'says': watch.on_message, 'leaves': watch.on_disconnect}[what](how, now)
                 for _ in range(what if isinstance(what, int) else 0):
                     now += how
                     clients.goes_on(how, now)

@@ -24,7 +24,7 @@ class ClockedTrunk:
         """Octets come, at this rate."""
         for _ in range(round(seconds / RECORD)):
             self._wait(RECORD / rate)
-            self.clock.took(1024, self.now)
+            self.clock.add_octets(1024, self.now)
 
     def looked_late(self, seconds: float) -> None:
         """Nobody looks for so long, and then one does."""
@@ -35,13 +35,13 @@ class ClockedTrunk:
     def overtaken(self, seconds: float) -> None:
         """Octets of this time are not seen."""
         self.now += seconds
-        self.clock.missed()
+        self.clock.restart()
         self._look = self.now + TICK
 
     def at_once(self, seconds: float) -> None:
         """Octets of this time come at one moment."""
         for _ in range(round(seconds / RECORD)):
-            self.clock.took(1024, self.now)
+            self.clock.add_octets(1024, self.now)
 
     def quiet(self, seconds: float) -> None:
         """No octets come."""

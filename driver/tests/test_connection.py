@@ -97,7 +97,7 @@ class ProgramConnectionTests(support.LoopCase):
         await other
         for n in 0, 1:
             self.assertFalse(both[n].done())
-            self.its.told(command_record(1, Command.SEIZE))
+            self.its.on_record(command_record(1, Command.SEIZE))
             await both[n]
         self.assertGreater(self.hurries, 0)
         told = list[object](['teller', 'teller', 'another'])

@@ -43,7 +43,7 @@ class Crc4CountTests(unittest.TestCase):
                 events = [event.words() for event in known.take(self.counts(*numbers))]
                 self.assertEqual(events, [] if number and told else told, numbers)
         self.assertEqual(known.counts, self.counts(5903, 919, 2, 5, 5, 1))
-        known.ended()
+        known.reset()
         known.take(self.counts(100, 0, 0, 1, 0, 0))
         self.assertEqual(known.counts, self.counts(6003, 919, 2, 6, 5, 1))
 

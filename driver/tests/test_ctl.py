@@ -342,7 +342,7 @@ class CtlOwnCommandTests(CtlAnswerCase):
         self.trunks['east'].answers['status json'] = '[]\n\n'
         self.assertEqual(self.ctl(), (1, [
             ctl_all.HEAD, f'east         does not answer: {self.trunks["east"].path}: its answer is no status',
-            str(ctl_all.TrunkLine.of('west', STATUS)),
+            str(ctl_all.TrunkLine.from_status('west', STATUS)),
             'north        not in service: systemctl status e1gw-trunk@north'], ''))
         self.trunks['east'].answers = self.trunks['west'].answers
         self.assertEqual(self.ctl()[0], 0)

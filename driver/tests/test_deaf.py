@@ -34,7 +34,7 @@ class HearingTests(unittest.TestCase):
     def why(self, at: float, *seen: tuple[float, ToldCounts]) -> str:
         hearing = Hearing(told(7), 10 * SECOND)
         for second, each in seen:
-            hearing = hearing.seen(each, round(second * SECOND))
+            hearing = hearing.updated(each, round(second * SECOND))
         return hearing.why_deaf(round(at * SECOND))
 
     def test_from_when_on(self) -> None:
@@ -69,8 +69,8 @@ class HearingTests(unittest.TestCase):
         for second in 9, 10:
             later.look(second * SECOND, {1: told(), 2: told(), 3: told(), 4: late})
         self.assertEqual((events, later.causes), ([], calls.causes))
-        later.ended(1)
-        later.ended(2)
+        later.forget(1)
+        later.forget(2)
         later.look(11 * SECOND, {1: told(), 3: told(5), 4: late})
         self.assertEqual(events, [CallsDeaf(False, (1,)), CallsDeaf(False, (3,))])
         self.assertEqual([each.words() for each in (*begun, *events)], [
@@ -91,7 +91,7 @@ class DeafTrunkTests(TrunkWatchCase):
         for place in range(1, 10):
             more = f'at {place * DEAF_AFTER // 8}', counts(3, place), counts(7, 0, PayloadType=place)
             found._lines.take('\n'.join([*more, '']).encode())
-            found._look()
+            found._check()
         return found
 
     async def test_where_it_is_shown(self) -> None:
@@ -105,7 +105,7 @@ class DeafTrunkTests(TrunkWatchCase):
         self.assertIn(f'\n{words}\n', table(status))
         self.assertTrue(circuit_table(status, 7).endswith('  9 PayloadType; hears nothing: PayloadType'))
         self.assertTrue(circuit_table(status, 5).endswith('  hears nothing: no packets'))
-        self.assertIn(f'; {words}', str(TrunkLine.of('west', status)))
+        self.assertIn(f'; {words}', str(TrunkLine.from_status('west', status)))
         self.assertEqual([n for n in range(1, 31) if f'e1gw_circuit_deaf{{circuit="{n}"}} 1\n' in exposition(status)],
                          [5, 7])
         parts = parts_of(status, mock.Mock(events=(), ended=()))
@@ -120,7 +120,7 @@ class DeafTrunkTests(TrunkWatchCase):
         """The first cause, also if another one comes behind it, and the call goes on behind a program and a watcher."""
         found = await self.deaf()
         found._lines.take(f'{counts(7, 0, PayloadType=9, Late=30)}\n'.encode())
-        found.status.calls.left()
+        found.status.calls.on_disconnect()
         note = found.status.calls.note(0, 0, 0.0, ())
         self.assertEqual([note.circuits[n].packets.cause for n in (3, 5, 7)], ['', '', 'PayloadType'])
         later = self.watched()
@@ -144,7 +144,7 @@ class DeafTrunkTests(TrunkWatchCase):
 
     def discarded(self, found: Any) -> tuple[str, ...]:
         """What was received in the call of circuit 7, and discarded."""
-        line = next(each for each in found.status.calls.going() if each.circuit == '7')
+        line = next(each for each in found.status.calls.open_calls() if each.circuit == '7')
         return line.received, line.discarded, line.cause
 
 

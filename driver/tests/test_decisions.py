@@ -10,7 +10,7 @@ from . import limits, support
 from e1gw.holder.decisions import (DEATHS, FIRST_PAUSE, MOST_DEATHS, MOST_PAUSE, TRIED, WITHIN, Deaths)
 from e1gw.trial import MOST_ENDED, ReloadEffects
 from e1gw.watcher import decisions
-from e1gw.watcher.decisions import Flow, FlowChange, IdleReloads, who_goes
+from e1gw.watcher.decisions import Flow, FlowChange, IdleReloads, choose_evicted
 
 
 class DecisionTests(unittest.TestCase):
@@ -39,9 +39,9 @@ class DecisionTests(unittest.TestCase):
             calls, new, ports, then = (frozenset(n for n in range(1, 9) if chance.randrange(2)) for _ in range(4))
             effects = ReloadEffects(calls, new, ports, then)
             for n in range(1, 9):
-                self.assertEqual(n in effects.ended, n in calls and n in new)
-                self.assertEqual(n in effects.mute, n in calls and n not in new and n in ports and n not in then)
-            many = len(effects.ended) + len(effects.mute) > MOST_ENDED
+                self.assertEqual(n in effects.ended_calls, n in calls and n in new)
+                self.assertEqual(n in effects.muted_calls, n in calls and n not in new and n in ports and n not in then)
+            many = len(effects.ended_calls) + len(effects.muted_calls) > MOST_ENDED
             self.assertEqual((effects.is_refused(False), effects.is_refused(True)), (many, False))
 
     def test_reloads_of_what_waits(self) -> None:
@@ -49,22 +49,22 @@ class DecisionTests(unittest.TestCase):
         fresh = IdleReloads()
         for states, is_due in ('', False), ('answered seized', False), ('answered idle', True):
             self.assertEqual(fresh.is_due(0.0, states.split()), is_due)
-        self.assertFalse(fresh.asked().is_due(1e9, ['idle']))
+        self.assertFalse(fresh.is_requested().is_due(1e9, ['idle']))
         for is_done, seconds in ((True, 2.0), (False, 60.0)):
-            after = fresh.asked().answered(10.0, is_done)
+            after = fresh.is_requested().answered(10.0, is_done)
             self.assertEqual([after.is_due(10.0 + each, ['idle']) for each in (seconds - 0.1, seconds)], [False, True])
 
     @mock.patch.object(decisions, 'QUIET', limits.USUAL['watcher.decisions.QUIET'])
     def test_a_stall(self) -> None:
         """It is found after a second, once; what nobody reports is not missed; octets end it."""
-        flow, change = Flow(0, 10.0).seen(0, 10.99, True)
+        flow, change = Flow(0, 10.0).update(0, 10.99, True)
         self.assertIsNone(change)
-        self.assertEqual(flow.seen(0, 99.0, False), (flow, None))
-        stalled, change = flow.seen(0, 11.0, True)
+        self.assertEqual(flow.update(0, 99.0, False), (flow, None))
+        stalled, change = flow.update(0, 11.0, True)
         self.assertEqual((stalled, change), (Flow(0, 10.0, 10.0, 1), FlowChange.STALLED))
-        self.assertEqual(stalled.seen(0, 50.0, True), (stalled, None))
-        self.assertEqual(stalled.seen(7, 51.0, False), (Flow(7, 51.0, None, 1), FlowChange.FLOWS))
-        self.assertEqual(Flow(7, 51.0, None, 1).seen(8, 99.0, True), (Flow(8, 99.0, None, 1), None))
+        self.assertEqual(stalled.update(0, 50.0, True), (stalled, None))
+        self.assertEqual(stalled.update(7, 51.0, False), (Flow(7, 51.0, None, 1), FlowChange.FLOWS))
+        self.assertEqual(Flow(7, 51.0, None, 1).update(8, 99.0, True), (Flow(8, 99.0, None, 1), None))
 
     def test_who_goes(self) -> None:
         """The one idle for longest; one that follows events behind the others, and one that holds calls last."""
@@ -74,4 +74,4 @@ class DecisionTests(unittest.TestCase):
                 (True, 0.0, True)))
         for clients, gone in (([busy, idle, follows, old], idle), ([follows, busy], busy), ([follows, old], old),
                               ([holds, follows], follows), ([front, busy, holds], busy), ([front, holds], holds)):
-            self.assertIs(who_goes(clients), gone)
+            self.assertIs(choose_evicted(clients), gone)

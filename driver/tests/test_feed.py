@@ -25,7 +25,7 @@ from e1gw.watcher import standby
 from e1gw.watcher.blocks import BlockedCircuits, KeptBlocks
 from e1gw.watcher.feed import BACK, CARRIES, LENGTH, MARK, MOST_PIECE, PIECE, STATE, TAKES, FeedServer
 from e1gw.log_folder import STATE_ROOM, LogPair
-from e1gw.watcher.missed import passed
+from e1gw.watcher.missed import pass_octets
 from e1gw.watcher.reader import LogReader
 from e1gw.watcher.standby import NO_CERTIFICATE, NO_TRUNK, FedLog, TrunkStandby
 from e1gw.satop_numbers import PacketNumber, number_of_now
@@ -60,7 +60,7 @@ class FeedTests(support.LoopCase):
             'places.return_value': TrunkPlaces(self.folder), 'blocks.return_value': self.blocks,
             'numbers.return_value': (5, 1000), 'config_path': lambda: self.config,
             'carried_by': lambda: state.program}))
-        server = await asyncio.start_server(self.feed.came, HOST, 0)
+        server = await asyncio.start_server(self.feed.on_connect, HOST, 0)
         self.addCleanup(server.close)
         self.place = server.sockets[0].getsockname()
         self.told, self.handed, self.blocked = list[Event](), list[bool](), list[list[int]]()
@@ -84,7 +84,7 @@ class FeedTests(support.LoopCase):
     async def fed(self, its: TrunkStandby) -> None:
         """Until it has all that was logged, and this machine knows it."""
         await self.until(lambda: its.fed and its.fed.octets == self.log.octets)
-        self.assertTrue(await self.feed.answers())
+        self.assertTrue(await self.feed.is_up_to_date())
 
     async def test_what_is_fed(self) -> None:
         """The newest state and all behind it, other states too; what the operator blocks; and where all of it is."""
@@ -93,10 +93,11 @@ class FeedTests(support.LoopCase):
         assert its.fed
         self.assertEqual((its.fed.pid, its.fed.circuits, its.fed.place, self.told, self.blocked),
                          (77, [], self.log.place, [Fed(f'{HOST}:{self.place[1]}', 77)], [[]]))
-        self.assertEqual((its.fed.number(), its.fed.folder), (5 + its.fed.octets // 1000, self.path('standby/fed')))
+        self.assertEqual((its.fed.next_packet_number(), its.fed.folder),
+                         (5 + its.fed.octets // 1000, self.path('standby/fed')))
         last = its.last()
         self.assertEqual(last and (last.state, len(last.records)), (b'state', MULTIFRAME + 4))
-        self.blocks.now = BlockedCircuits().taken((2, 30))
+        self.blocks.now = BlockedCircuits().add((2, 30))
         self.log.multiframe()
         self.log.turns()
         self.log.multiframe()
@@ -266,11 +267,11 @@ class PacketNumberTests(support.FolderCase):
         """That with the trunk's octet 0, and at the other machine the next one behind other octets."""
         for number, octets in (100, 25_600), (3, 256_000), (0, 1):
             fed = FedLog(self.folder, 0, octets, (PacketNumber(number, 256).zero(octets), 256))
-            self.assertEqual(fed.number(), number)
+            self.assertEqual(fed.next_packet_number(), number)
             fed.octets += 2560
-            self.assertEqual(fed.number(), number + 10)
+            self.assertEqual(fed.next_packet_number(), number + 10)
             fed.close()
-        self.assertIsNone(FedLog(self.folder, 0, 0).number())
+        self.assertIsNone(FedLog(self.folder, 0, 0).next_packet_number())
 
 
 class ReadAgainTests(unittest.TestCase):
@@ -287,7 +288,7 @@ class ReadAgainTests(unittest.TestCase):
                 far.sendall(b'told')
         (thread := threading.Thread(target=tells)).start()
         with near:
-            self.assertEqual(passed(near, given, bytes(range(256)) * 1000), b'told')
+            self.assertEqual(pass_octets(near, given, bytes(range(256)) * 1000), b'told')
         thread.join()
         self.assertEqual(taken, [bytes(range(256)) * 1000])
 
@@ -301,7 +302,7 @@ class FedLogTests(support.FolderCase):
         first, second = FedLog(self.folder, 0, 0), FedLog(self.folder, 0, 0)
         for each in first, second:
             each.begin(b'')
-            each.goes_to(places.fed)
+            each.move_to(places.fed)
         self.assertEqual((os.listdir(self.folder), len(self.held())), (['fed'], 8))
         first.close()
         self.assertEqual((os.listdir(self.folder), len(self.held())), (['fed'], 4))
@@ -313,7 +314,7 @@ class FedLogTests(support.FolderCase):
         with mock.patch.object(standby, 'time', mock.Mock(**{'monotonic.return_value': 1001.0})):
             fed = FedLog(self.folder, 0, 0)
             fed.came = 1000.0
-            self.assertEqual((fed.ones(), fed.ones()), (256_000, 0))
+            self.assertEqual((fed.missing_octets(), fed.missing_octets()), (256_000, 0))
 
     def test_when_they_came_last(self) -> None:
         """The last ones wait for the word that all was sent, which may wait here. Ones for less than the time without
@@ -360,11 +361,11 @@ class StandbyTests(support.LoopCase):
             self.assertEqual((words[:2], log.state), (['replay', '--save'], b'before' if not status else b'behind'))
             os.replace(self.write('new', b'behind'), words[2])
             return status, 'odd\n', b''
-        await fed._shorten(mock.Mock(run=run))
+        await fed._checkpoint(mock.Mock(run=run))
         self.assertEqual((fed.last() or LogPair(0, 0, b'', b'')).state, b'behind')
         status = 1
         with self.assertRaisesRegex(OSError, 'the records of the other machine are not taken: odd$'):
-            await fed._shorten(mock.Mock(run=run))
+            await fed._checkpoint(mock.Mock(run=run))
 
     async def test_what_is_too_old(self) -> None:
         """It is forgotten; what is not gets ones for its age, and stays in its place."""
@@ -373,7 +374,7 @@ class StandbyTests(support.LoopCase):
         for age, words, left in (3000.0, 'what is known is 3000 s old', []), (0.5, 'behind octet ', ['fed']):
             fed = FedLog(self.folder, 0, 0)
             fed.begin(b'state')
-            its.knows(fed)
+            its.publish(fed)
             fed.came = fed.fresh = time.monotonic() - age
             with mock.patch.object(standby, 'MOST_AGE', 2000.0):
                 told = await its.fill()
@@ -381,7 +382,7 @@ class StandbyTests(support.LoopCase):
                              (words, left, fed if left else None))
         self.assertEqual(told, f'behind octet {fed.octets}, {fed.octets} of them ones')
         self.assertGreaterEqual(fed.octets, 128_000)
-        its.knows(None)
+        its.publish(None)
         self.assertEqual((os.listdir(self.folder), self.held()), ([], []))
 
     async def said(self, *words: int) -> tuple[float, list[bool]]:
@@ -408,7 +409,7 @@ class StandbyTests(support.LoopCase):
         if leaves:
             left.set_result(None)
         with mock.patch('asyncio.wait', mock.AsyncMock()) as waits:
-            await its._handed(left)
+            await its._wait_for_takeover(left)
         self.assertLess(sum(call.kwargs['timeout'] for call in waits.call_args_list), 1.0)
         return [call.args[0] for call in its._writer.write.call_args_list]
 

@@ -27,7 +27,7 @@ from e1gw.holder.holder import Holder
 from e1gw.holder.line import HeldLine, has_ended
 from e1gw.holder.loop import Loop
 from e1gw.holder.options import HELP, FLAGS, TEXTS, LineWants, OptionsRefused, options_of
-from e1gw.holder.program import end_words, fault_in, taken
+from e1gw.holder.program import end_words, fault_in, counted_octets
 from e1gw.holder.sockets import HeldSockets, address_in, name_of
 from e1gw.holder.store import Store
 from e1gw.holder.version import Tried, Versions, tried_in, version_of
@@ -78,7 +78,7 @@ class StoreTests(FolderCase):
     def test_all_is_told_in_the_end(self) -> None:
         """systemd lets ten messages wait: the line goes first, each turn tells more, and what is to be said is said."""
         self.store.keep(self.files)
-        self.store.say('READY=1')
+        self.store.notify('READY=1')
         self.assertTrue(self.store.lags)
         told = self.told()
         self.assertEqual(told[:2], ['FDSTORE=1', 'FDNAME=line-in'])
@@ -108,10 +108,10 @@ class StoreTests(FolderCase):
         os.close(first)
         os.dup2(self.files['1'], second)
         self.told()
-        self.store.say('READY=1')
+        self.store.notify('READY=1')
         self.assertEqual((self.told(), self.store.lags), (['READY=1'], False))
         os.close(second)
-        self.store.say('READY=1')
+        self.store.notify('READY=1')
         self.assertEqual((self.told(), self.store.lags), (['READY=1'], False))
         self.store.keep({'first': first})
         self.assertEqual(self.told(), ['FDSTOREREMOVE=1', 'FDNAME=first'])
@@ -234,29 +234,29 @@ class HeldSocketsTests(unittest.TestCase):
             line.bind(wanted[2])
             sockets = HeldSockets({})
             self.assertFalse(sockets.bind(wanted))
-            self.assertEqual(({*sockets.lacking}, len(sockets.given(wanted))), ({2}, 1))
+            self.assertEqual(({*sockets.lacking}, len(sockets.program_descriptors(wanted))), ({2}, 1))
             self.assertFalse(sockets.bind(wanted))
         self.assertTrue(sockets.bind(wanted))
         self.assertFalse(sockets.bind(wanted))
         again = HeldSockets({**sockets.files, 'program': 7})
-        self.assertEqual(again.given(wanted), sockets.given(wanted))
-        again.keep([wanted[1]])
+        self.assertEqual(again.program_descriptors(wanted), sockets.program_descriptors(wanted))
+        again.close_others([wanted[1]])
         self.assertEqual([*again.files], [name_of(wanted[1])])
-        again.keep([])
+        again.close_others([])
 
     def test_old_speech(self) -> None:
         """It is taken, and what the network has said of what was sent."""
         (port,) = free_ports(1)
         sockets = HeldSockets({})
         sockets.bind({1: ('127.0.0.1', port)})
-        (file,) = sockets.given({1: ('127.0.0.1', port)})
+        (file,) = sockets.program_descriptors({1: ('127.0.0.1', port)})
         with socket.socket(socket.AF_INET, socket.SOCK_DGRAM) as line:
             for _ in range(5):
                 line.sendto(b'x', ('127.0.0.1', port))
         sockets.drop_old()
         with self.assertRaises(BlockingIOError):
             os.read(file, 1)
-        sockets.keep([])
+        sockets.close_others([])
 
 
 class VersionsTests(unittest.TestCase):
@@ -277,11 +277,11 @@ class VersionsTests(unittest.TestCase):
         first, second = versions.now, self.version().now
         assert first and second
         versions.follows(second)
-        self.assertEqual((versions.kept(), versions.addresses()), (first, {('127.0.0.1', 5000)}))
+        self.assertEqual((versions.stored_version(), versions.addresses()), (first, {('127.0.0.1', 5000)}))
         versions.is_up(10.0)
-        self.assertEqual(versions.kept(), second)
-        versions.goes_back()
-        self.assertEqual((versions.kept(), versions.before, versions.trial), (first, None, None))
+        self.assertEqual(versions.stored_version(), second)
+        versions.roll_back()
+        self.assertEqual((versions.stored_version(), versions.before, versions.trial), (first, None, None))
         versions.stays()
         first.close()
 
@@ -345,16 +345,16 @@ class HeldLineTests(FolderCase):
         """A failure is said once; it is tried until it is open, and the next holder has its descriptors."""
         path = self.path('fifo')
         line = self.line(lambda: Stream(os.open(path, os.O_RDONLY | os.O_NONBLOCK), os.dup(2), ''))
-        with mock.patch('e1gw.holder.line.say') as said:
+        with mock.patch('e1gw.holder.line.log_line') as said:
             for _ in range(3):
                 self.looks(line)
         self.assertEqual(len(said.mock_calls), 1)
         self.assertIn(f'{path}: No such file', line.fault)
         os.mkfifo(path)
         support.until(lambda: line.look(time.monotonic()) and line.files)
-        self.assertEqual((line.fault, len({*line.both})), ('', 2))
+        self.assertEqual((line.fault, len({*line.program_files})), ('', 2))
         again = HeldLine(line.options, {**line.files, 'line-in': 99}, Loop())
-        self.assertEqual(again.both, line.both)
+        self.assertEqual(again.program_files, line.program_files)
         again.close()
 
     def test_ends(self) -> None:
@@ -382,7 +382,7 @@ class WordsTests(unittest.TestCase):
                              (['cannot write the log of the trunk'], EndFault.LOG_WRITE),
                              (['cannot open the log of the trunk'], EndFault.LOG_WRITE)):
             self.assertIs(fault_in(lines), fault, lines)
-        self.assertEqual([taken(each) for each in (['octets 12', 'x'], ['x octets 12'], list[str]())], [12, None, None])
+        self.assertEqual([*map(counted_octets, (['octets 12', 'x'], ['x octets 12'], list[str]()))], [12, None, None])
         self.assertEqual(end_words(-9, ['x']), 'ended by signal 9 (SIGKILL)')
         self.assertEqual(end_words(-40, ['x']), 'ended by signal 40')
         self.assertEqual(end_words(1, ['circuit 3 begins as new', 'fault 5 Read', 'octets 5']), 'says: fault 5 Read')
@@ -445,7 +445,7 @@ class LoopTests(unittest.TestCase):
             def comes(file: int = reads) -> None:
                 called.append(file)
                 for each, _ in pipes:
-                    loop.leave(each)
+                    loop.unwatch(each)
             loop.watch(reads, comes, select.POLLIN)
         loop.wait(1.0)
         loop.wait(0.0)
@@ -460,7 +460,7 @@ class HeldFolderTests(FolderCase):
         options = mock.Mock(folder=self.path('disk/trunk-0'))
         holder = mock.Mock(spec=['folder', 'options'], options=options, folder=options.folder)
         with mock.patch.object(holder_state, 'MEMORY', self.path('memory')), \
-                mock.patch.object(starting, 'say') as said:
+                mock.patch.object(starting, 'log_line') as said:
             starting.make_folder(holder)
             self.assertEqual(holder.folder, options.folder)
             with mock.patch('os.makedirs', side_effect=OSError(5, 'x')), self.assertRaises(OSError):
@@ -485,7 +485,7 @@ class HeldFolderTests(FolderCase):
         holder = mock.Mock(spec=['folder', 'options', 'log'], options=options, folder=options.folder)
         holder.log.put_back = mock.Mock(side_effect=[OSError(28, 'x'), True, OSError(28, 'x')])
         with mock.patch.object(holder_state, 'MEMORY', self.path('memory')), \
-                mock.patch.object(starting, 'say') as said:
+                mock.patch.object(starting, 'log_line') as said:
             memory = holder_state.folder_in_memory(options.folder)
             starting.put_back_log(holder)
             with self.assertRaises(OSError):
@@ -501,14 +501,14 @@ class TurnTests(unittest.TestCase):
         holder = mock.Mock(spec=Holder, status=None, ending='', is_active=True, due=0.0, _ticked=5.0, folder='')
         for name in 'store', 'reloads', 'line', 'versions', 'program':
             setattr(holder, name, mock.Mock())
-        holder.program.ended.return_value = -9
+        holder.program.exit_status.return_value = -9
         holder._look_at, holder._go_on, holder._bring_up, holder._is_opened = (
             functools.partial(getattr(Holder, name), holder)
             for name in ('_look_at', '_go_on', '_bring_up', '_is_opened'))
         holder.line.files = {}
         holder.line.look.side_effect = lambda now: holder.line.files.update(line=1) or True
         ended = mock.Mock(side_effect=lambda held, *_: setattr(held, 'program', None))
-        with mock.patch.multiple('e1gw.holder.holder', follow=ended, start=mock.DEFAULT) as its:
+        with mock.patch.multiple('e1gw.holder.holder', on_program_exit=ended, start=mock.DEFAULT) as its:
             Holder.turn(holder, 5.0)
         self.assertEqual((len(ended.mock_calls), len(its['start'].mock_calls)), (1, 1))
 
@@ -523,13 +523,13 @@ class HolderAnswerTests(unittest.TestCase):
             holder = mock.Mock(spec=Holder, status=None, is_active=False, folder='/none')
             for name in 'line', 'sockets', 'log', 'store':
                 setattr(holder, name, mock.Mock())
-            holder.settle = functools.partial(Holder.settle, holder)
+            holder.answer_waiting = functools.partial(Holder.answer_waiting, holder)
             asked = [mock.Mock(word=word) for word in ('reload', 'renew', 'take')]
             holder.requests = [*asked]
             does(holder)
             self.assertEqual([each.word for each in holder.requests], waits)
             self.assertEqual([len(each.refused.mock_calls) for each in asked], [1, 1, int(not waits)])
-            self.assertEqual(holder.store.say.mock_calls, [mock.call('READY=1')])
+            self.assertEqual(holder.store.notify.mock_calls, [mock.call('READY=1')])
 
 
 class RemovedFolderTests(FolderCase):

@@ -24,7 +24,7 @@ class RoleCase(support.FolderCase):
                                 lost='', requests=[], line=mock.Mock(number=None), sockets=mock.Mock())
         self.addCleanup(self.holder.log.close)
         self.answers = list[str]()
-        for name in 'settle', 'release':
+        for name in 'answer_waiting', 'release':
             setattr(self.holder, name, getattr(Holder, name).__get__(self.holder))
 
     def log(self, name: str, text: str, age: float = 0.0) -> None:
@@ -108,7 +108,7 @@ class ChangedRoleTests(RoleCase):
             self.says(text)
         self.assertEqual((self.holder.line.number, self.found(), self.answers), (77, {'log': 'fed'}, []))
         self.assertEqual(support.text_of(self.path('role')), 'active')
-        self.holder.settle('take')
+        self.holder.answer_waiting('take')
         self.up()
         self.says('take')
         self.assertEqual(self.answers, ['take: done'] * 4)
@@ -125,7 +125,7 @@ class ChangedRoleTests(RoleCase):
         self.holder.is_active, program = True, self.up()
         self.log('log', 'mine')
         self.says('release')
-        self.holder.want.assert_called_with(EndReason.RELEASE, 5.0)
+        self.holder.request_end.assert_called_with(EndReason.RELEASE, 5.0)
         program.asked = 5.0
         self.says('release')
         self.assertEqual((self.answers, self.found()), ([], {'log': 'mine'}))
@@ -147,5 +147,5 @@ class ChangedRoleTests(RoleCase):
         self.holder.program = None
         self.holder.release()
         self.assertEqual((self.found()['log'], self.holder.is_active, self.holder.line.number), ('mine', True, None))
-        self.holder.settle('take')
+        self.holder.answer_waiting('take')
         self.assertEqual(self.answers[1:], ['take: done'])

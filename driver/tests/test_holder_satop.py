@@ -61,12 +61,12 @@ class HeldSatopTests(support.FolderCase):
 
     def goes_round(self, line: SatopLine, count: int = 256) -> bytes:
         """Octets go both ways."""
-        os.write(line.both[1], bytes(count))
+        os.write(line.program_files[1], bytes(count))
         found = bytearray()
 
         def comes() -> bool:
             try:
-                found.extend(os.read(line.both[0], 10_000))
+                found.extend(os.read(line.program_files[0], 10_000))
             except BlockingIOError:
                 pass
             return len(found) >= count
@@ -93,7 +93,7 @@ class HeldSatopTests(support.FolderCase):
         line = self.line(SCRIPT)
         first = int(support.until(lambda: words_of(line.pid))[-1])
         support.until(lambda: 'sent=3' in support.text_of(self.path('satop')))
-        self.assertEqual(line.kept(), {})
+        self.assertEqual(line.stored_files(), {})
         line.close()
         with mock.patch('e1gw.satop.addresses_of', side_effect=OSError), \
                 mock.patch('time.time', lambda: 0.0):
@@ -106,7 +106,7 @@ class HeldSatopTests(support.FolderCase):
         again = SatopLine(line.options, line.files, self.loop)
         again.take_up(line.note())
         assert line._child
-        self.loop.leave(line._child._file)
+        self.loop.unwatch(line._child._file)
         pid, line._child, line.files = line.pid, None, {}
         self.assertEqual(again.pid, pid)
         os.kill(pid, signal.SIGKILL)
@@ -121,7 +121,7 @@ class HeldSatopTests(support.FolderCase):
 
         def comes() -> bool:
             try:
-                found.extend(os.read(line.both[0], 10_000))
+                found.extend(os.read(line.program_files[0], 10_000))
             except BlockingIOError:
                 pass
             return len(found) >= 2 * len(ONES)
@@ -134,7 +134,7 @@ class HeldSatopTests(support.FolderCase):
         for script, reason in ('\n', ENDED), (FAILS, why):
             line = self.line(script)
             self.until(partial(line.why_ended, 0), line)
-            self.assertEqual((line.why_ended(0), os.read(line.both[0], 10)), (reason, b''))
+            self.assertEqual((line.why_ended(0), os.read(line.program_files[0], 10)), (reason, b''))
             line.close()
         line = self.line(FAILS, reopens=True)
         self.until(lambda: line.fault == why, line)
@@ -177,7 +177,7 @@ class HeldSatopTests(support.FolderCase):
         """And nothing stays open. One that plays into a full socket ends, too, and one that hangs."""
         before = len(os.listdir('/proc/self/fd'))
         line = self.line(f"""{SCRIPT}open('{self.path('over')}', 'w')\n""")
-        os.write(line.both[1], bytes(100_000))
+        os.write(line.program_files[1], bytes(100_000))
         with mock.patch.object(satop_line, 'GRACE', 900.0):
             line.close()
         self.assertTrue(os.path.exists(self.path('over')))

@@ -111,10 +111,10 @@ class TrialTests(support.FolderCase):
                 ((1, 2), (1, 2, 3), False, 'it ends 2 calls .circuits 1, 2.; it takes the ports of 1 calls'),
                 ((1, 2, 3, 4), (1, 2, 3, 4), True, 'it ends 4 calls'),
                 ((1, 2, 3, 4), (1, 2, 3), False, 'it ends 3 calls')):
-            self.assertRegex(trial.effects(self.asked(before=before, force=force), version, frozenset(new),
+            self.assertRegex(trial.describe_effects(self.asked(before=before, force=force), version, frozenset(new),
                                            frozenset(calls)), f'^{words}')
         with self.assertRaisesRegex(trial.TrialRefused, 'it would end 4 calls .*: reload --when-idle waits'):
-            trial.effects(self.asked(before=before), version, frozenset((1, 2)), frozenset((1, 2, 3, 4)))
+            trial.describe_effects(self.asked(before=before), version, frozenset((1, 2)), frozenset((1, 2, 3, 4)))
 
     def test_what_waits(self) -> None:
         """Circuits in a call keep their table until its end if that is asked, and if they have its codec already; law
@@ -134,7 +134,7 @@ class TrialTests(support.FolderCase):
         def found(config: str, **more: Any) -> tuple[list[int], str, str, bool]:
             path = self.write('new.toml', config)
             asked = self.asked(**{'config': path, 'before': before._asdict(), 'program_before': self.file} | more)
-            its = trial.tried(asked)
+            its = trial.try_version(asked)
             self.assertEqual([n for n in before.circuits if its['tried']['circuits'][n] == before.circuits[n]],
                              [*its['tried']['wait']] or ([1, 2, 3] if its['runs'] else []))
             return [*its['tried']['wait']], its['told'], its['changes'], its['runs']

@@ -54,7 +54,7 @@ class ReceivedNumberTests(PropertyCase):
             # what comes very late is lost, since nobody knows any more what came then
             ([5, 7, *range(8, 6 + WINDOW), 6], 0), ([5, 7, *range(8, 7 + WINDOW), 6], 1)]
         for numbers, lost in rows:
-            self.assertEqual(lost_of(*(each & 0xFFFF for each in numbers)).lost, lost, numbers)
+            self.assertEqual(lost_of(*(each & 0xFFFF for each in numbers)).count_lost, lost, numbers)
 
     def test_sources(self) -> None:
         """Another source is no part of the stream, unless it goes on with its numbers, or comes alone."""
@@ -62,12 +62,12 @@ class ReceivedNumberTests(PropertyCase):
         for number in range(7, 50):
             take(found, 9, 1000 + 5 * number)
             take(found, 7, *[number] * (number % 10 != 0))
-        self.assertEqual(found.lost, 4)
+        self.assertEqual(found.count_lost, 4)
         take(found, 9, 50)
         take(found, 7, 51)
-        self.assertEqual(found.lost, 4)
+        self.assertEqual(found.count_lost, 4)
         take(found, 9, *range(2000, 2000 + IN_A_ROW - 1), 2000 + IN_A_ROW, 3000 + IN_A_ROW)
-        self.assertEqual(found.lost, 4 + 1 + 999)
+        self.assertEqual(found.count_lost, 4 + 1 + 999)
 
     def test_another_call(self) -> None:
         """Begins anew, and what was lost stays; octets that are no RTP have no number."""
@@ -76,7 +76,7 @@ class ReceivedNumberTests(PropertyCase):
         take(found, 7, 60, 62)
         for octets in b'', rtp(90, 0, 7)[:11], b'\x40' + rtp(90, 0, 7)[1:]:
             found.take(octets, 0, len(octets))
-        self.assertEqual(found.lost, 2)
+        self.assertEqual(found.count_lost, 2)
 
     def test_any_order(self) -> None:
         """Whatever is lost and overtakes others: all between the first and the highest number that did not come."""
@@ -85,7 +85,7 @@ class ReceivedNumberTests(PropertyCase):
             numbers = [n for _, n in order]
             came = [n for n in numbers if n >= numbers[0]]
             lost = len({*range(numbers[0], max(came))} - {*came}) if came else 0
-            assert lost_of(*(first + n & 0xFFFF for n in numbers)).lost == lost
+            assert lost_of(*(first + n & 0xFFFF for n in numbers)).count_lost == lost
         self.holds(check, self.st.integers(0, 65535), self.st.lists(
             self.st.tuples(self.st.integers(0, 20), self.st.booleans()), max_size=80))
 
@@ -242,7 +242,8 @@ class ShownFigureTests(unittest.TestCase):
                  'calls': {int(each['circuit']): of_line(CallLine(**each)) for each in status['calls']},
                  'page': {n: {'lost': int(cells[f'c{n}'][0][5]), **cause_of(cells[f'c{n}'][0][7])} for n in FAULTS},
                  'metrics': {n: metric_figures(metrics, n) for n in FAULTS}}
-        self.assertEqual(TrunkLine.of('west', status).lost, str(sum(each['lost'] for each in found['status'].values())))
+        self.assertEqual(TrunkLine.from_status('west', status).lost,
+                         str(sum(each['lost'] for each in found['status'].values())))
         for n, (_, causes) in FAULTS.items():
             self.assertEqual({*status['circuits'][n - 1]['datagrams']} - {'sent', 'admitted'}, causes, n)
         return found

@@ -52,12 +52,12 @@ class PageRequestTests(unittest.TestCase):
                 ('text/htmlx', False), ('', False))
         for accepted, is_of_browser in rows:
             head = f'GET /?a HTTP/1.1\r\nX-Accept: text/html\r\naccept:{accepted}\r\nHost: a:1\r\n\r\n'.encode()
-            self.assertEqual(PageRequest.of(head), PageRequest(b'GET', '/', 'a', is_of_browser), accepted)
+            self.assertEqual(PageRequest.parse(head), PageRequest(b'GET', '/', 'a', is_of_browser), accepted)
 
     def test_hosts(self) -> None:
         for host, found in (('a-1.example:9101', 'a-1.example'), ('[::1]:9', '[::1]'), ('192.0.2.1', '192.0.2.1'),
                             ('a"><b>:1', 'localhost'), ('a b', 'localhost'), ('', 'localhost')):
-            self.assertEqual(PageRequest.of(f'GET / HTTP/1.1\r\nHost: {host}\r\n\r\n'.encode()).host, found)
+            self.assertEqual(PageRequest.parse(f'GET / HTTP/1.1\r\nHost: {host}\r\n\r\n'.encode()).host, found)
 
 
 def line_changed(state: State) -> LineChanged:
@@ -177,8 +177,8 @@ class PageServerTests(unittest.IsolatedAsyncioTestCase):
     async def asyncSetUp(self) -> None:
         texts = mock.Mock(parts={'c1': [ShownRow(['1', 'idle'])]}, table='rows', metrics='samples', json='{}',
                           status={'name': 'west'})
-        server = await asyncio.start_server(pages.TrunkServer(mock.AsyncMock(return_value=texts), '127.0.0.1', []).came,
-                                            '127.0.0.1', 0)
+        pages_of = pages.TrunkServer(mock.AsyncMock(return_value=texts), '127.0.0.1', [])
+        server = await asyncio.start_server(pages_of.on_connect, '127.0.0.1', 0)
         self.addCleanup(server.close)
         self.place = server.sockets[0].getsockname()
 

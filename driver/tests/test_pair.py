@@ -25,11 +25,12 @@ class PairTests(support.LoopCase):
             'carried_by': lambda: state.program if state.role == ACTIVE else 0})
         self.trunk.reader.last.return_value = None
         self.standby = mock.Mock(fed=None, why='', fill=mock.AsyncMock(), run=self.is_fed)
-        self.feed = mock.Mock(is_carried=False, hands_over=False, finish=mock.AsyncMock(), answers=mock.AsyncMock())
+        self.feed = mock.Mock(is_carried=False, hands_over=False, finish=mock.AsyncMock(),
+                              is_up_to_date=mock.AsyncMock())
         self.feed.age.return_value = self.standby.age.return_value = 0.5
         self.asked, self.runs, self.holds = list[str](), list[str](), asyncio.Event()
         self.holds.set()
-        self.enterContext(mock.patch.object(door, 'heard', self.heard))
+        self.enterContext(mock.patch.object(door, 'ask_within', self.heard))
         self.its = TrunkPair(self.trunk, self.standby, self.feed)
         self.addCleanup(self.its.close)
 
@@ -49,7 +50,7 @@ class PairTests(support.LoopCase):
             self.runs.append('ends')
 
     def fed(self, number: int | None = None) -> Any:
-        self.standby.fed = mock.Mock(place=3, octets=9, circuits=[], **{'number.return_value': number})
+        self.standby.fed = mock.Mock(place=3, octets=9, circuits=[], **{'next_packet_number.return_value': number})
         return self.standby.fed
 
     async def test_promoted(self) -> None:
@@ -63,7 +64,7 @@ class PairTests(support.LoopCase):
             self.assertEqual(await self.its.change('promote'), DONE)
             self.assertEqual((self.asked, self.runs), ([words], ['begins', 'ends', 'fills']))
             self.trunk.reader.begins_anew.assert_called_with((3, 9))
-            self.standby.knows.assert_called_with(None)
+            self.standby.publish.assert_called_with(None)
 
     async def test_asked_twice_and_the_reverse(self) -> None:
         """The same is done once; the reverse ends it."""
@@ -88,7 +89,7 @@ class PairTests(support.LoopCase):
         await asyncio.sleep(0)
         self.assertEqual((self.runs, self.asked), (['begins', 'ends'], []))
         self.trunk.reader.begins_anew.assert_called_once_with((3, 9))
-        self.standby.knows.assert_called_once_with(None)
+        self.standby.publish.assert_called_once_with(None)
         self.assertEqual(self.its.role(), 'active, fed')
 
     async def test_while_its_program_ends(self) -> None:
@@ -113,11 +114,11 @@ class PairTests(support.LoopCase):
                 said.append(self.feed.hands_over)
                 self.feed.is_carried = is_carried
             self.feed.finish = finish
-            with mock.patch.object(self.its, '_own') as own:
+            with mock.patch.object(self.its, '_own_state') as own:
                 self.trunk.reader.last.return_value = mock.Mock()
                 self.assertEqual(await self.its.change('move'), answer)
                 self.assertEqual((said, self.feed.hands_over), ([True], False))
-                self.standby.knows.assert_any_call(own.return_value)
+                self.standby.publish.assert_any_call(own.return_value)
             self.assertEqual(self.asked, ['release'] if is_carried else ['release', 'take'])
 
     async def test_what_is_refused(self) -> None:
@@ -126,11 +127,11 @@ class PairTests(support.LoopCase):
         self.state.role, self.state.program = ACTIVE, 0
         self.assertEqual(self.its.role(), 'active, fed, no program')
         self.state.program = os.getpid()
-        self.feed.answers.return_value = False
+        self.feed.is_up_to_date.return_value = False
         self.assertEqual(await self.its.change('move'), refused('no standby is fed here'))
         for fault, answer in (
                 (TimeoutError(), CommandAnswer(AnswerWord.UNKNOWN, 'the holder does not answer within 30 s')),
                 (ConnectionRefusedError(111, 'x'), refused(f'there is no holder: {self.folder}/hold: x'))):
-            with mock.patch.object(door, 'heard', side_effect=fault), mock.patch.object(pair, 'PATIENCE', 30.0):
+            with mock.patch.object(door, 'ask_within', side_effect=fault), mock.patch.object(pair, 'PATIENCE', 30.0):
                 self.assertEqual(await self.its.change('demote'), answer)
         self.assertEqual(self.asked, [])

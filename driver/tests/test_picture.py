@@ -35,7 +35,7 @@ class FactsTests(unittest.TestCase):
         """The first is the prefill before its turn; the next ones come 10 ms, 80 samples, after their time."""
         row = Row(3, prefill=320)
         for place, stamp in ((0, 0), (7680, 160), (12800, 320)):
-            row.came(place, 0, rtp(0, stamp, 7), 0, stamp, 7)
+            row.add_datagram(place, 0, rtp(0, stamp, 7), 0, stamp, 7)
         self.assertEqual((row.cell.low, row.cell.high), (240, 320))
 
     def test_lost_and_repeated(self) -> None:
@@ -51,7 +51,7 @@ class FactsTests(unittest.TestCase):
         for came, lost, repeated, refused in rows:
             row = Row(3)
             for sequence, mark, code in came:
-                row.came(0, code, rtp(sequence, 0, 7, payload=bytes([mark & 255])), sequence, 0, 7)
+                row.add_datagram(0, code, rtp(sequence, 0, 7, payload=bytes([mark & 255])), sequence, 0, 7)
             with self.subTest(came=came):
                 self.assertEqual((row.cell.lost, row.cell.counts['repetitions'], row.cell.discarded()),
                                  (lost, repeated, refused))
@@ -72,7 +72,7 @@ class FactsTests(unittest.TestCase):
             facts = Facts({1: Row(1), 2: Row(2)})
             for circuit, way, seen in ((1, 'came', HeardSamples(40, other=40)), (1, 'slot', HeardSamples(40, other=40)),
                                        (2, 'slot', HeardSamples(40, own=own))):
-                facts.hear(circuit, 0, way, seen)
+                facts.add_sample(circuit, 0, way, seen)
             self.assertEqual([each.kind for each in findings(facts) if each.kind.endswith(' other')], found)
 
     def test_columns_are_few_and_lose_nothing(self) -> None:

@@ -11,7 +11,7 @@ from unittest import mock
 from . import support
 from .picture_made import MadeSession, PictureSender, coded, packets, page_of
 from e1gw.recording_ring import Ring
-from e1gw_common.session_files import kept
+from e1gw_common.session_files import open_session
 from e1gw_picture.beginning import begin
 from e1gw_picture.facts import Facts
 from e1gw_picture.main import gathered
@@ -111,7 +111,7 @@ class MidCallPictureTests(RingCase):
     def test_the_last_part_of_a_folder(self) -> None:
         """It begins with the last piece that is far enough from the end."""
         for last, files in ((0.5, 2), (1.5, 3), (2.5, 4), (100, 4)):
-            self.assertEqual(len(kept(self.ring, int(last * OCTETS_A_SECOND)).files), files)
+            self.assertEqual(len(open_session(self.ring, int(last * OCTETS_A_SECOND)).files), files)
         page, said = page_of('--last', '1s', self.ring)
         self.assertEqual((said, 'discarded as NotOpen' in page), ('', False))
         self.assertIn('Calls were up when the session began (circuits 3)', page)
@@ -121,7 +121,7 @@ class MidCallPictureTests(RingCase):
         self.assertIn('1 connected before', page)
         for path in self.files('.state'):
             os.unlink(path)
-        self.assertEqual(len(kept(self.ring, OCTETS_A_SECOND).files), 4)
+        self.assertEqual(len(open_session(self.ring, OCTETS_A_SECOND).files), 4)
         self.assertEqual(page_of('--last', '1s', self.ring)[1], '')
 
     def test_no_state(self) -> None:

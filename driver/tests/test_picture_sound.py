@@ -13,7 +13,7 @@ from e1gw_common.g711 import OTHER, TONES, VALUES, level, power
 from e1gw_picture.facts import BITS
 from e1gw_picture.findings import findings
 from e1gw_picture.orders import Orders, reordered
-from e1gw_picture.sound import EACH, HeardSamples, ListeningTimes, heard
+from e1gw_picture.sound import EACH, HeardSamples, ListeningTimes, sample_speech
 from e1gw_common.session import Kind, packet_of, records_in
 
 LAWS = ('A', 'mu')
@@ -23,7 +23,7 @@ def listened(octets: bytes, law: str) -> HeardSamples:
     """What is found in packets of 20 ms that are to be of a law."""
     seen = HeardSamples()
     for packet in packets(octets):
-        seen.join(heard(packet, law))
+        seen.join(sample_speech(packet, law))
     return seen
 
 
@@ -82,7 +82,7 @@ class LawTests(FolderCase):
         for law in LAWS:
             for hertz in (50, 440, 697, 1004, 1209, 1800, 2000, 2100, 2700, 3000, 3400, 3999):
                 for loud in (1.0, 0.2, 0.01):
-                    self.assertEqual(heard(tone(law, hertz, loud), law).other, 0, (law, hertz, loud))
+                    self.assertEqual(sample_speech(tone(law, hertz, loud), law).other, 0, (law, hertz, loud))
 
     def test_few_looks_claim_nothing(self) -> None:
         for looks, is_other in ((4, 4, 0), False), ((9, 9, 1), True), ((9, 8, 1), False):

@@ -15,7 +15,7 @@ from . import support
 from .properties import PropertyCase
 from e1gw.recording_ring import MOST_SLIPS, Ring, seconds_of, seconds_of_file
 from e1gw_common.session import OCTETS_A_SECOND
-from e1gw_common.session_files import kept, note_of
+from e1gw_common.session_files import open_session, note_of
 
 KEPT = 60                   # seconds
 EARLIER, OWN = 5, 6         # files, in place of so many that no test makes them
@@ -87,7 +87,7 @@ class RingTests(support.FolderCase, PropertyCase):
                     self.assertEqual((found[-len(own):], len(found)), (own, len(own) + earlier))
                     place, self.day = place + seconds, self.day + seconds + step
                 if not earlier:
-                    self.assertEqual([int(support.text_of(path)) for path in kept(self.ring).files], own)
+                    self.assertEqual([int(support.text_of(path)) for path in open_session(self.ring).files], own)
                 earlier += len(own)
                 ring.close()
             self.assertLessEqual({*OTHERS}, {*os.listdir(self.ring)})

@@ -74,7 +74,7 @@ class RecordingTests(support.LoopCase):
         left = RecordingNote(path, None, '', (), path, 0, 5, 5, 5)
         its = self.recording(path, left)
         its.put(b' octets', 12, 9)
-        await its.has(12, SECONDS)
+        await its.wait_until_written(12, SECONDS)
         await asyncio.to_thread(its.close)
         self.assertEqual((support.text_of(path), its.is_over()), ('noted octets', True))
         self.assertEqual(its.note(0), replace(left, place=12, octets=9, size=12))
@@ -93,7 +93,7 @@ class RecordingTests(support.LoopCase):
             its = self.recording(path, RecordingNote(path, None, '', (), path, 0, 0, 0, 0))
             for place in 99, 198:
                 its.put(bytes(99), place, place)
-                await its.has(place, SECONDS)
+                await its.wait_until_written(place, SECONDS)
             await asyncio.to_thread(its.close)
         self.assertEqual((its.why, os.path.getsize(path)), ('', 198))
 
@@ -121,7 +121,7 @@ class RecordingTests(support.LoopCase):
                 self.assertEqual(its.why, '')
                 for _ in range(2):
                     its.put(b'x', 100, 100)
-                await its.has(200, SECONDS)
+                await its.wait_until_written(200, SECONDS)
                 await asyncio.to_thread(its.close)
         its.put(b'x', 101, 101)
         self.assertFalse(its._waiting)
@@ -221,11 +221,11 @@ class LogReaderTests(support.LoopCase):
         """It hangs, or has no octets: what it tells otherwise is read, and it is asked again."""
         config, tell = self.write('trunk.toml', 'law = "A"\n[[circuit]]\nnumber = 1\n'), self.path('tell')
         trunk = PlainTrunk(self.reader, self.folder, config)
-        setattr(trunk, 'missed', mock.AsyncMock(return_value=None))
+        setattr(trunk, 'missed_reports', mock.AsyncMock(return_value=None))
         with support.listening(tell) as listener, mock.patch.object(status, 'PATIENCE', 0.01, create=True), \
                 mock.patch.object(status, 'REST', 0.001):
             its = status.TrunkStatus(trunk, 'west', lambda event: None, DatagramCounts(), lambda line: None)
-            follows = asyncio.create_task(its.follow())
+            follows = asyncio.create_task(its.run())
             await asyncio.sleep(0)
             with listener.accept()[0] as line:
                 line.sendall('\n'.join([*BEGIN, 'now', '']).encode())

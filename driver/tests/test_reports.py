@@ -50,7 +50,7 @@ class ToldTests(unittest.TestCase):
     def again(self, *changed: str, place: int = 512, begun: int | None = None) -> None:
         """Another connection; the whole state has these lines. (Of a line before it half has come.)"""
         self.told.take(b'line  1 outgo')
-        self.told.lost()
+        self.told.on_disconnect()
         self.told.begin(begun)
         rows = {line[5:7]: line for line in (*BEGIN[3:], *changed) if line.startswith('line')}
         counted = [line for line in changed if line.startswith('counts')]
@@ -188,7 +188,7 @@ class ToldTests(unittest.TestCase):
         self.assertEqual(self.told.place, 4096 + 2048)
 
     def test_counts_are_stale_while_nobody_tells(self) -> None:
-        self.told.lost()
+        self.told.on_disconnect()
         self.assertTrue(self.circuit()['stale'])
         self.told.begin()
         self.take(*BEGIN)
@@ -221,12 +221,12 @@ class ReportReadingTests(support.LoopCase):
         tell = self.path('tell')
         trunk = mock.Mock(**{
             'places.return_value.tell': tell, 'config_path.return_value': config, 'facts.return_value': TrunkFacts(),
-            'session.return_value': '', 'begun.return_value': 0, 'missed': mock.AsyncMock(return_value=None),
-            'know_place': mock.AsyncMock()})
+            'session.return_value': '', 'start_octet.return_value': 0,
+            'missed_reports': mock.AsyncMock(return_value=None), 'know_place': mock.AsyncMock()})
         with support.listening(tell) as listener, mock.patch.object(status, 'REST', 0.001):
             its = status.TrunkStatus(trunk, 'west', events.append, DatagramCounts(), lambda line: None)
-            its.stands('control', True)
-            follows = asyncio.create_task(its.follow())
+            its.set_connected('control', True)
+            follows = asyncio.create_task(its.run())
             await asyncio.sleep(0)
             with listener.accept()[0] as line:
                 line.sendall('\n'.join([*BEGIN, 'now', '']).encode())

@@ -44,7 +44,7 @@ class ResyncRuleTests(unittest.TestCase):
             self.come(LATE, end)
             self.assertEqual(self.restarted[before:], [(end, 1)])
         self.come(0, *(30 + n / 200 for n in range(80)))
-        self.rule.want([1], 'gap')
+        self.rule.request([1], 'gap')
         self.come(0, 30.5)
         self.come(LATE, 30.5625, 30.625, 30.75)
         self.assertEqual(len(self.restarted), 4)
@@ -143,7 +143,7 @@ class ResyncPropertyTests(PropertyCase):
                         for _ in range(times * (code != 13)):
                             call.comes(place, code != 0)
                     elif what == 'want':
-                        rule.want([1], 'lost')
+                        rule.request([1], 'lost')
                         call.wanted = 'lost'
                     call = RememberedCall() if what == 'close' else call
                     counts = what != 'wait' or bool(how)

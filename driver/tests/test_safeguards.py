@@ -44,7 +44,7 @@ class FolderOwnTests(FolderCase):
         asked = {'log': '', 'state': self.path('state'), 'program': 0, 'config': ''}
         with mock.patch.multiple(trial, run=run, last_of=mock.Mock(return_value=LogPair(1, 0, b'', b''))), \
                 mock.patch.multiple(os, fsync=calls.fsync, replace=calls.replace):
-            trial.saved(asked)
+            trial.save_state(asked)
         self.assertEqual([name for name, *_ in calls.mock_calls], ['fsync', 'replace'])
 
 
@@ -60,7 +60,7 @@ class SpeechTests(unittest.TestCase):
         """The other one receives what is sent to the address: no socket is kept."""
         its = mock.Mock(is_active=True)
         held.Holder.release(its)
-        its.sockets.keep.assert_called_once_with(())
+        its.sockets.close_others.assert_called_once_with(())
 
     def test_another_program_has_another_file(self) -> None:
         reader = LogReader('none', 0.1, None, lambda: None, bytes)

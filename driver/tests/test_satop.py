@@ -26,7 +26,7 @@ def told_of(counts: Sequence[dict[str, int]], heard_by_none: Sequence[int] = ())
     """What changes with each of these counts, of a second each: its words, and whether it holds."""
     seen, told = SatopSeen(), list[tuple[int, str, bool]]()
     for at, each in enumerate(counts):
-        before, seen = seen, seen.then(each, [*heard_by_none, *[0] * len(counts)][at])
+        before, seen = seen, seen.updated(each, [*heard_by_none, *[0] * len(counts)][at])
         told += [(at, what.words, False) for what in before.holding if what not in seen.holding]
         told += [(at, what.words, True) for what in seen.holding if what not in before.holding]
     return told

@@ -19,7 +19,7 @@ from .keepers import CIRCUITS, NO_EFFECT
 from .support import octets_in
 from .test_watcher import WatcherCase, events_in
 from e1gw_common.session import Codec, Kind, codec_record, records_in
-from e1gw_common.session_files import by_time, kept, note_of, octets_of
+from e1gw_common.session_files import by_time, open_session, note_of, octets_of
 
 HELD = 12                   # multiframes that a device holds which nobody reads
 NAMELESS = 35               # a signal of real time: it could not be told, and no program followed
@@ -285,7 +285,8 @@ class SequenceCase(KeptCase):
         self.assertEqual({row['by'] for row in rows}, {'stop'})
 
     def kept_of(self, path: str) -> bytes:
-        files = kept(path).files if os.path.exists(path) and (not os.path.isdir(path) or os.listdir(path)) else []
+        is_kept = os.path.exists(path) and (not os.path.isdir(path) or os.listdir(path))
+        files = open_session(path).files if is_kept else []
         return b''.join(piece for file in files for piece in octets_of(file))
 
     def happen(self) -> None:

@@ -15,7 +15,7 @@ from e1gw.clock import TICK, ClockFinding
 from e1gw.watcher import reader, recordings
 from e1gw_common.session import MULTIFRAME, OCTETS_A_SECOND
 from e1gw_common.session_clock import FileNote, SessionClock
-from e1gw_common.session_files import kept
+from e1gw_common.session_files import open_session
 
 RECORD = MULTIFRAME / OCTETS_A_SECOND       # seconds
 LATE = TICK + 0.02          # .. by which the begin of a file is seen late, at a look
@@ -149,7 +149,7 @@ class SessionClockTests(support.LoopCase):
         for name, steps in [*SESSIONS.items(), *((f'made {n}', made(chance)) for n in range(9))]:
             with self.subTest(name, steps=steps):
                 its = await self.session(name, steps)
-                session = kept(its.wants.session)
+                session = open_session(its.wants.session)
                 clock = SessionClock(session.begin, tuple(session.breaks))
                 for place, second in its.times:
                     self.assertAlmostEqual(clock.second(place - 1), second, delta=LATE)
@@ -162,7 +162,7 @@ class SessionClockTests(support.LoopCase):
 
     def told_once(self, its: KeptSession) -> None:
         """The .json tell the outages that there were: from when to when, and for how long."""
-        session = kept(its.wants.session)
+        session = open_session(its.wants.session)
         clock = SessionClock(session.begin, tuple(session.breaks))
         told = [(clock.second(each.place) - each.lost, clock.second(each.place), each.lost)
                 for each in session.breaks if each.is_outage]
@@ -184,7 +184,7 @@ class NotedTwiceTests(unittest.TestCase):
             ('nothing was missed', [(10, 0.3)], 0.02, None), ('what a program had', [(0, 0.008)], 0.2, None)]
         for name, slips, away, found in rows:
             with self.subTest(name):
-                its = FileNote(0, DAY, 1.0, tuple(slips)).twice(away, away)
+                its = FileNote(0, DAY, 1.0, tuple(slips)).repeated_slip(away, away)
                 self.assertEqual(its and (its[0], round(its[1], 6)), found)
 
     def test_when_a_file_was_begun_is_no_jump(self) -> None:

@@ -230,7 +230,7 @@ class TrunkTextTests(unittest.TestCase):
                  'west         1.2      1970-01-02 00:00      0        0        0  aligned; wrong rate 20.00 %; satop: '
                  'packets missing'))
         for more, line in rows:
-            self.assertEqual(str(ctl_all.TrunkLine.of('west', STATUS | more)), line)
+            self.assertEqual(str(ctl_all.TrunkLine.from_status('west', STATUS | more)), line)
 
 
 class HiddenAddressTests(unittest.TestCase):
@@ -244,7 +244,7 @@ class HiddenAddressTests(unittest.TestCase):
                 ('[2001:db8::7]:5060', '[host4]:5060'), ('from 2001:db8::7: no', 'from host4: no'),
                 ('east.example:7401', 'host2:7401'), ('127.0.0.1:9101 ::1 0.0.0.0', '127.0.0.1:9101 ::1 0.0.0.0'),
                 ('14:03:22 1.2.3 face a::bad_word std::c', '14:03:22 1.2.3 face a::bad_word std::c')):
-            self.assertEqual(hidden.without(text), without)
+            self.assertEqual(hidden.hide_in(text), without)
 
 
 class EventAndFaultTextTests(unittest.TestCase):

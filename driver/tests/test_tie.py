@@ -84,9 +84,9 @@ class TieEndTests(unittest.TestCase):
             told = list[Any]()
             tie = Tie(TieOptions('', own, 0.0, False), 'run', told.append)
             tie.site = mock.Mock()
-            tie.came(Greeting('other', far))
+            tie.on_connect(Greeting('other', far))
             self.assertEqual(tie.there, joined or {n: n for n in CIRCUITS})
-            tie.gone('it is dark')
+            tie.on_disconnect('it is dark')
             self.assertEqual((told, tie.far), ([SiteCame(len(joined or CIRCUITS), left), SiteGone('it is dark')], None))
 
     def test_who_has_named_a_call(self) -> None:
@@ -96,7 +96,7 @@ class TieEndTests(unittest.TestCase):
             tie.site, tie.far = mock.Mock(), {}
             tie.circuits = {1: TieCircuit(Role.INCOMING, State.ACKED, 'a.1')}
             far = CircuitEnd(Role.OUTGOING, State.SEIZED, 'a.1')
-            tie.heard(SiteState(out_of_service, {2: far}, all=is_all))
+            tie.on_message(SiteState(out_of_service, {2: far}, all=is_all))
             self.assertEqual([each.args[0].ends[1].passed for each in tie.site.send.call_args_list], ['a.1'])
 
     def test_same_role(self) -> None:
@@ -106,7 +106,7 @@ class TieEndTests(unittest.TestCase):
         tie.circuits = {1: TieCircuit(Role.INCOMING, State.ACKED, 'a.1')}
         tie.link, tie.out_of_service, tie.trunk.is_up = LinkState.GOOD, False, True
         tie.trunk.begin = lambda command: command.close()
-        tie.heard(SiteState(False, {2: CircuitEnd(Role.INCOMING, State.IDLE, '')}, all=True))
+        tie.on_message(SiteState(False, {2: CircuitEnd(Role.INCOMING, State.IDLE, '')}, all=True))
         self.assertEqual(told, [Warned('both ends have the same role', (1,)), CallOver(1, 'a.1', 'given up')])
 
     def test_dark(self) -> None:
@@ -118,18 +118,18 @@ class TieEndTests(unittest.TestCase):
         for event, is_dark in rows:
             tie = Tie(TieOptions('', None, 0.0, False), 'run', lambda report: None)
             tie.out_of_service, tie.site = False, mock.Mock()
-            tie.told(event)
+            tie.on_event(event)
             self.assertEqual(tie.site.send.call_args_list, [mock.call(SiteState(True, {}))] * is_dark, event)
 
 
 class TieFailureTests(unittest.IsolatedAsyncioTestCase):
     async def test_its_status(self) -> None:
         for fault, status in (None, 0), (OSError(5, 'odd'), 1):
-            tie = mock.Mock(follow=mock.AsyncMock(side_effect=fault), leave=mock.AsyncMock())
+            tie = mock.Mock(run=mock.AsyncMock(side_effect=fault), restore_codecs=mock.AsyncMock())
             with mock.patch('sys.stderr', new_callable=io.StringIO) as said:
                 self.assertEqual(await work(tie, mock.Mock(run=asyncio.Event().wait), None, None), status)
             self.assertEqual(said.getvalue(), f'e1gw-tie: {fault}\n' if fault else '')
-            self.assertEqual((tie.leave.await_count, tie.tell.mock_calls), (1, [mock.call(Ended(status))]))
+            self.assertEqual((tie.restore_codecs.await_count, tie.tell.mock_calls), (1, [mock.call(Ended(status))]))
 
 
 class TieOptionTests(unittest.TestCase):
@@ -201,8 +201,9 @@ class TieTrunkTests(ClockedCase):
         self.tie = Tie(TieOptions(self.trunk.path, None, 3.0, False), 'run',
                        lambda report: self.events.append(report.plain()))
         self.site = self.tie.site = mock.Mock()
-        self.tie.heard(SiteState(False, dict.fromkeys(CIRCUITS, CircuitEnd(Role.OUTGOING, State.IDLE, '')), all=True))
-        self.begin(self.tie.follow())
+        ends = dict.fromkeys(CIRCUITS, CircuitEnd(Role.OUTGOING, State.IDLE, ''))
+        self.tie.on_message(SiteState(False, ends, all=True))
+        self.begin(self.tie.run())
         await self.until(lambda: self.tie.link is LinkState.GOOD)
 
     def told(self, event: str) -> list[dict[str, Any]]:

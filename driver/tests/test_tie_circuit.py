@@ -8,7 +8,7 @@ from typing import Iterator
 
 from e1gw_common.lines import Role, State
 from e1gw_common.session import Command
-from e1gw_tie.circuit import NO_CALL, CircuitEnd, LinkState, TieCircuit, begun, call_name
+from e1gw_tie.circuit import NO_CALL, CircuitEnd, LinkState, TieCircuit, start_circuit, call_name
 
 S, GOOD, LOST, GIVEN_UP = State, LinkState.GOOD, LinkState.LOST, LinkState.GIVEN_UP
 IDLE, SEIZED, ACKED, ANSWERED = S.IDLE, S.SEIZED, S.ACKED, S.ANSWERED
@@ -36,12 +36,12 @@ DONE = {Command.SEIZE: ((IDLE,), SEIZED), Command.CLEAR: (CALLED, RELEASING),
 def acted(circuit: TieCircuit, link: LinkState) -> TieCircuit:
     """An end gives the command that it wants, which the gateway never refuses then."""
     circuit = circuit.marked_over(link)
-    if command := circuit.wants(link):
+    if command := circuit.next_command(link):
         of, to = DONE[command]
         assert circuit.state in of, (command, circuit)
-        circuit = circuit.moved(to)
+        circuit = circuit.with_state(to)
         if command is Command.SEIZE and circuit.far:
-            circuit = circuit.tried(circuit.far.call or NO_CALL)
+            circuit = circuit.with_attempt(circuit.far.call or NO_CALL)
     return circuit
 
 
@@ -49,9 +49,9 @@ def settled(near: TieCircuit, far: TieCircuit, link: LinkState = GOOD) -> tuple[
     """What comes of two ends, which hear one another if they are connected. A line that is released becomes idle."""
     for _ in range(9):
         near, far = acted(near, link), acted(far, link)
-        far = far.moved(IDLE) if far.state is RELEASING else far
+        far = far.with_state(IDLE) if far.state is RELEASING else far
         if link is GOOD:
-            near, far = near.heard(far.end()), far.heard(near.end())
+            near, far = near.with_far(far.end()), far.with_far(near.end())
     return near, far
 
 
@@ -110,7 +110,7 @@ class TieCommandTests(unittest.TestCase):
             (incoming, ANSWERED, 'call 2', IDLE, GOOD, True, Command.CLEAR_BACK)]
         for role, state, call, far, link, waits, command in rows:
             end = CircuitEnd(outgoing if role is incoming else incoming, far, 'call 2')
-            self.assertIs(TieCircuit(role, state, call, far=end).wants(link, waits), command, (role, state))
+            self.assertIs(TieCircuit(role, state, call, far=end).next_command(link, waits), command, (role, state))
 
     def test_why_an_end_clears(self) -> None:
         gone, over, none = 'the other site is gone, or a trunk is out of service', \
@@ -119,7 +119,7 @@ class TieCommandTests(unittest.TestCase):
                                (CircuitEnd(Role.INCOMING, IDLE, 'call 1'), GOOD, none),
                                (CircuitEnd(Role.INCOMING, IDLE, 'call 1'), GIVEN_UP, gone)):
             circuit = TieCircuit(Role.OUTGOING, ANSWERED, 'call 1', far=far)
-            self.assertEqual([circuit.reason(each, link) for each in (Command.CLEAR, Command.SEIZE)], [why, None])
+            self.assertEqual([circuit.clear_reason(each, link) for each in (Command.CLEAR, Command.SEIZE)], [why, None])
 
     def test_what_the_other_end_is_told(self) -> None:
         """A release that is stuck is a fault to it; an outgoing circuit that the operator has blocked is blocked."""
@@ -134,19 +134,19 @@ class TieCommandTests(unittest.TestCase):
         circuit = TieCircuit(Role.INCOMING, ACKED, 'call 2', far=CircuitEnd(Role.OUTGOING, IDLE, 'call 1'))
         circuit = circuit.marked_over(GIVEN_UP)
         self.assertTrue(circuit.end().over)
-        self.assertTrue(circuit.moved(ANSWERED).moved(CLEAREDBACK).end().over)
-        self.assertFalse(circuit.moved(IDLE).moved(ACKED, 'call 3').end().over)
+        self.assertTrue(circuit.with_state(ANSWERED).with_state(CLEAREDBACK).end().over)
+        self.assertFalse(circuit.with_state(IDLE).with_state(ACKED, 'call 3').end().over)
 
     def test_who_knows_which_call(self) -> None:
         """The incoming end names it and remembers which one the other has named; the other learns that if it has
         forgotten its own."""
-        circuit = TieCircuit(Role.INCOMING, IDLE, 'call 1').moved(ACKED, 'call 2')
+        circuit = TieCircuit(Role.INCOMING, IDLE, 'call 1').with_state(ACKED, 'call 2')
         for named, passed in (('call 1', 'call 1'), (None, 'call 1'), ('call 2', 'call 2')):
-            circuit = circuit.heard(CircuitEnd(Role.OUTGOING, SEIZED, named))
+            circuit = circuit.with_far(CircuitEnd(Role.OUTGOING, SEIZED, named))
             self.assertEqual((circuit.call, circuit.end().passed), ('call 2', passed))
         for known, call in ((None, 'call 2'), ('call 7', 'call 7')):
-            far = TieCircuit(Role.OUTGOING, SEIZED, known).heard(circuit.end())
-            self.assertEqual((far.call, far.tried('call 8').call), (call, 'call 8'))
+            far = TieCircuit(Role.OUTGOING, SEIZED, known).with_far(circuit.end())
+            self.assertEqual((far.call, far.with_attempt('call 8').call), (call, 'call 8'))
 
     def test_what_goes_on_with_another_trunk(self) -> None:
         """What is known of a call goes on with it, and with no other one."""
@@ -154,5 +154,6 @@ class TieCommandTests(unittest.TestCase):
         for role, call, over in ((Role.INCOMING, 'call 1', True), (Role.INCOMING, 'call 2', False),
                                  (Role.OUTGOING, 'call 1', False)):
             fresh = TieCircuit(role, ANSWERED, call, kept=True)
-            self.assertEqual((begun(known, fresh), begun(None, fresh)), (replace(fresh, over=over), fresh))
+            self.assertEqual((start_circuit(known, fresh), start_circuit(None, fresh)),
+                             (replace(fresh, over=over), fresh))
         self.assertEqual([call_name('a', n) for n in (0, 1)], [NO_CALL, 'a.1'])

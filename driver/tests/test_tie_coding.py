@@ -62,7 +62,7 @@ class CodecChangesTests(unittest.TestCase):
         made.begin({'law': law, 'circuits': [
             {'circuit': int(n[1:]), 'configured_codec': its.codec, 'configured_payload': its.payload,
              'codec': 'pcmu', 'payload': 0} for n, its in codings.items()]})
-        made.heard(far) if hears else None
+        made.on_far_codec(far) if hears else None
         return made
 
     def test_warnings(self) -> None:
@@ -77,7 +77,7 @@ class CodecChangesTests(unittest.TestCase):
         for more, own, about in rows:
             self.setUp()
             made = self.changes(**more)
-            made.heard(more.get('far', 'pcma'))
+            made.on_far_codec(more.get('far', 'pcma'))
             self.assertEqual((made.own, self.events), (own, [Warned(wrong + about)] if about else []), more)
 
     def test_changes(self) -> None:
@@ -91,15 +91,15 @@ class CodecChangesTests(unittest.TestCase):
         made.give(1, State.CLEAREDBACK)
         made.give(1, State.IDLE)
         self.assertEqual(self.asked, ['codec 1 pcma 8 auto', 'codec 1 g726-16 96 auto'])
-        made.stands({'circuit': 1, 'codec': 'pcmu', 'payload': 0})
-        made.stands({'circuit': 9, 'codec': 'pcmu', 'payload': 0})
+        made.on_status_row({'circuit': 1, 'codec': 'pcmu', 'payload': 0})
+        made.on_status_row({'circuit': 9, 'codec': 'pcmu', 'payload': 0})
         made.give(1, State.IDLE)
         made.give(1, State.ANSWERED)
         self.assertEqual(self.asked[2:], ['codec 1 pcma 8 auto', 'codec 1 g726-16 96 auto'])
         self.assertEqual(self.events, [CodecGiven(1, 'pcma', 8, 'done'), CodecGiven(1, 'g726-16', 96, 'not now'),
                                        CodecGiven(1, 'pcma', 8, 'done'), CodecGiven(1, 'g726-16', 96, 'done')])
         self.assertEqual(self.looked, [1] * 4)
-        made.stands({'circuit': 1, 'codec': 'pcma', 'payload': 8})
+        made.on_status_row({'circuit': 1, 'codec': 'pcma', 'payload': 8})
         made.give(1, State.IDLE)
         self.assertEqual(len(self.asked), 4)
 
@@ -124,7 +124,7 @@ class CodecChangesTests(unittest.TestCase):
         setattr(self, 'begin', tasks.append)
         made.give(1, State.IDLE)
         made.give(1, State.ANSWERED)
-        made.stands({'circuit': 1, 'codec': 'pcma', 'payload': 8})       # (it is of before the answer)
+        made.on_status_row({'circuit': 1, 'codec': 'pcma', 'payload': 8})       # (it is of before the answer)
         self.assertEqual(len(tasks), 1)
         self.answers[:1] = [refused('not now')]
         with self.assertRaises(StopIteration):
@@ -135,10 +135,10 @@ class CodecChangesTests(unittest.TestCase):
 
     def test_leave(self) -> None:
         made = self.changes(c1=G726, c2=G726, c3=Coding('pcmu', 0), c4=G726)
-        asyncio.run(made.leave([1, 3, 4, 5]))
+        asyncio.run(made.restore([1, 3, 4, 5]))
         self.assertEqual(self.asked, ['codec 1 g726-16 96 auto', 'codec 4 g726-16 96 auto'])
         made.give(2, State.IDLE)
         self.assertEqual((len(self.asked), self.looked), (2, [1, 4]))
         self.is_up = False
-        asyncio.run(self.changes(c1=G726).leave([1]))
+        asyncio.run(self.changes(c1=G726).restore([1]))
         self.assertEqual(len(self.asked), 2)

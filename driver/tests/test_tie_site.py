@@ -62,13 +62,13 @@ class SiteEnd:
     def tell(self, report: Report) -> None:
         self.others.append(str(getattr(report, 'why')))
 
-    def came(self, greeting: Greeting) -> None:
+    def on_connect(self, greeting: Greeting) -> None:
         self.told.append(f'{greeting.run} came')
 
-    def gone(self, why: str) -> None:
+    def on_disconnect(self, why: str) -> None:
         self.told.append('gone' if why != 'no keepalive' else why)
 
-    def heard(self, message: Message) -> None:
+    def on_message(self, message: Message) -> None:
         if isinstance(message, SiteState):
             self.told.append(f'dark: {message.out_of_service}')
 
@@ -272,7 +272,7 @@ class WholeTieTests(ClockedCase):
             tie = Tie(TieOptions(driver.path, None, 3.0, False, 'pcma'), driver.path, lambda report: None)
             tie.site = Site(('127.0.0.1', port), driver is west, None, None, tie)
             self.addCleanup(tie.site.close)
-            self.begin(tie.follow())
+            self.begin(tie.run())
             self.begin(tie.site.run())
         for driver, pair, state, coding in ((west, IDLE, State.IDLE, PCMA), (west, SEIZED, ACKED, PCMA),
                                             (east, ANSWER, ANSWERED, G726), (west, IDLE, State.IDLE, PCMA)):

@@ -57,19 +57,19 @@ class JoinedTrunk(StandInDriver):
         self.tie = Tie(self.options, f'{next(RUNS)}', lambda report: self.events.append(report.plain()))
         setattr(self.tie, 'site', self)
         setattr(self.tie.trunk, 'ask', self.asks)
-        self.tie._hold()
+        self.tie._hold_calls()
         self.up()
 
     def up(self) -> None:
         """The tie finds its trunk."""
-        self.follows = self.follows or asyncio.create_task(self.tie.trunk._look())
+        self.follows = self.follows or asyncio.create_task(self.tie.trunk._poll())
 
     def down(self) -> None:
         """It loses it."""
         if self.follows:
             self.follows.cancel()
         self.follows, self.tie.trunk.is_up = None, False
-        self.tie.lost()
+        self.tie.on_trunk_lost()
 
     def anew(self) -> None:
         """The trunk has forgotten how often each line was seized."""
@@ -92,20 +92,20 @@ class JoinedTrunk(StandInDriver):
 
     def tell(self, **event: Any) -> None:
         if self.tie.trunk.is_up:
-            asyncio.get_running_loop().call_soon(self.tie.told, event)
+            asyncio.get_running_loop().call_soon(self.tie.on_event, event)
 
     def joins(self, other: JoinedTrunk) -> None:
         """The sites are connected."""
         if self.other is None:
             self.other, other.other = other, self
-            self.tie.came(other.tie.own_greeting)
-            other.tie.came(self.tie.own_greeting)
+            self.tie.on_connect(other.tie.own_greeting)
+            other.tie.on_connect(self.tie.own_greeting)
 
     def apart(self) -> None:
         """They are no more."""
         for each in (self, self.other) if self.other else ():
             each.other = None
-            each.tie.gone('closed')
+            each.tie.on_disconnect('closed')
 
     def send(self, message: Any, pair: int = -1) -> None:
         """The tie sends to the other site; or the exchange sends bits of a circuit."""
@@ -119,7 +119,7 @@ class JoinedTrunk(StandInDriver):
         """The next message is there, if the sites are connected as they were."""
         tie, octets = self.on_way.popleft()
         if self.other and self.other.tie is tie:
-            tie.heard(message_of(octets))
+            tie.on_message(message_of(octets))
 
 
 def played(scene: Coroutine[Any, Any, None]) -> None:

@@ -103,9 +103,9 @@ class TrunkTests(unittest.TestCase):
     def test_octets_before_the_first_multiframe(self) -> None:
         """The exchange waits for that, and hears it."""
         exchange = support.Exchange()
-        exchange.hear(b'\xff' * 600)
+        exchange.receive(b'\xff' * 600)
         self.assertFalse(exchange.aligned)
-        exchange.hear(support.Exchange().multiframe())
+        exchange.receive(support.Exchange().multiframe())
         self.assertEqual((exchange.aligned, exchange.remote_alarms, len(exchange.heard[1])), (True, False, 16))
 
 
@@ -307,5 +307,5 @@ class FilterTests(unittest.TestCase):
                     back = support.read_from(world.line, count)
                     world.kill('trunk')
                     world.line.sendall(octets[count:])
-                    world.exchange.hear(back + support.read_from(world.line, MULTIFRAME - count))
+                    world.exchange.receive(back + support.read_from(world.line, MULTIFRAME - count))
                     self.goes_on(world)

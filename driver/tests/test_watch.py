@@ -44,7 +44,7 @@ class TrunkWatchCase(support.LoopCase):
         its = mock.Mock(flow=dict, **{
             'places.return_value.tell': config, 'config_path.return_value': config, 'place.return_value': 0,
             'outage.return_value': None, 'facts.return_value': TrunkFacts(**facts), 'starts.return_value': (),
-            'begun.return_value': 0})
+            'start_octet.return_value': 0})
         found = watch.TrunkWatch(watch.WatchWants(name='west', calls=self.path('calls')), its)
         self.addCleanup(found._close)
         self.given, self.told = list[bytes](), list[Event]()
@@ -97,7 +97,7 @@ class WatchEdgeTests(TrunkWatchCase):
         found.count(3, 'seize', 'done')
         found._resyncs = 4
         found._lines.lines[3].opened = time.monotonic() - 5.0
-        calls, shown, wanted = found.status.calls_note(), found.shown(), found._values()
+        calls, shown, wanted = found.status.calls_note(), found.page_notes(), found._values()
         assert calls
         found._lines.take('\n'.join([row(3, 'fault'), row(5, 'idle'), row(4, 'answered'), '']).encode())
         later = self.watched()
@@ -129,13 +129,13 @@ class WatchEdgeTests(TrunkWatchCase):
         """It is an alarm, and red in the first line, up to the right one, also behind another watcher."""
         found = self.watched()
         setattr(found.trunk.reader.clock, 'rate', rate := TrunkRate())
-        found.was_shown(found.shown())
+        found.was_shown(found.page_notes())
         self.assertFalse(rate.is_wrong)
         found.flowed(ClockFinding('wrong rate', 0.2))
         later = self.watched()
         later.blocks = mock.Mock(**{'kept.now.word.return_value': None})
         setattr(later.trunk.reader.clock, 'rate', rate)
-        later.was_shown(found.shown())
+        later.was_shown(found.page_notes())
         self.assertTrue(rate.is_wrong)
         for what, is_bad in ('wrong rate', True), ('right rate', False):
             later.flowed(ClockFinding(what, 0.9985))
@@ -148,8 +148,8 @@ class WatchEdgeTests(TrunkWatchCase):
     async def test_who_fails_when_told(self) -> None:
         """It is reported where that was, the program is not blamed, and all others are told."""
         change = '\n'.join([row(3, 'seized', '00 10'), 'command 3 1 0', counts(3, 1), 'alarms 1 0 0 0', ''])
-        for kind, what in ((CallLog, 'took'), (CallNames, 'look'), (ReadEvents, 'take'), (TrunkPages, 'changed'),
-                           (ProgramConnection, 'told'), (Resyncs, 'counted')):
+        for kind, what in ((CallLog, 'on_state_change'), (CallNames, 'look'), (ReadEvents, 'take'),
+                           (TrunkPages, 'changed'), (ProgramConnection, 'on_record'), (Resyncs, 'counted')):
             with self.subTest(what), mock.patch.object(kind, what, side_effect=KeyError('odd')):
                 found = self.watched()
                 found.blocks, follower = mock.Mock(), mock.Mock()
@@ -171,7 +171,7 @@ class WatchEdgeTests(TrunkWatchCase):
         lines += [each for n in range(1, 5) for each in (f'at {30_000 * n}', counts(3, 0, Full=n))]
         found._lines.begin(0)
         found._lines.take('\n'.join([*lines, '']).encode())
-        found._look()
+        found._check()
         await self.until(lambda: self.given)
         self.assertEqual([record[:2] for record in self.given], [b'K\x03'])
 
@@ -199,7 +199,7 @@ class WatchEdgeTests(TrunkWatchCase):
             if is_known:
                 its.take_up(CallsNote(OCTETS_A_SECOND, 0, 0.0, {}, (), {}, ()))
             missed = MissedReports(OCTETS_A_SECOND, False, 3 * OCTETS_A_SECOND, 3 * OCTETS_A_SECOND + 1024, text)
-            with mock.patch.object(its._trunk, 'missed', mock.AsyncMock(return_value=missed)), \
+            with mock.patch.object(its._trunk, 'missed_reports', mock.AsyncMock(return_value=missed)), \
                     mock.patch.object(status, 'logger') as told:
                 await its._catch_up(missed.last)
             self.assertEqual([call.args[1] for call in told.warning.call_args_list], [2.0] * is_known)
@@ -209,9 +209,9 @@ class WatchEdgeTests(TrunkWatchCase):
         """Of those a reload has ended the calls."""
         its = self.watched().status
         self.write('trunk.toml', 'law = "A"\n[[circuit]]\nnumber = 3\n')
-        with mock.patch.object(its._trunk, 'missed', mock.AsyncMock(return_value=None)):
+        with mock.patch.object(its._trunk, 'missed_reports', mock.AsyncMock(return_value=None)):
             for changed in {3}, set():
-                await its.came(mock.Mock(), 'session', 0)
+                await its.on_connect(mock.Mock(), 'session', 0)
                 self.assertEqual(its.calls.changed, changed)
 
     def test_who_takes_too_little(self) -> None:
@@ -305,7 +305,7 @@ class WatchPartTests(unittest.IsolatedAsyncioTestCase):
         tasks = []
         for _ in range(MOST_VISITORS + 2):
             lines.append(asyncio.StreamReader())
-            tasks.append(asyncio.create_task(server.came(lines[-1], mock.Mock())))
+            tasks.append(asyncio.create_task(server.on_connect(lines[-1], mock.Mock())))
             await asyncio.sleep(0)
             await asyncio.sleep(0)
         self.assertEqual([n for n, task in enumerate(tasks) if task.done()], [0, 1])

@@ -27,7 +27,7 @@ from e1gw.watcher.blocks import BlockStage, BlockedCircuits
 from e1gw.watcher.held import HeldNote, HeldTrunk, events_of, fault_of, nearest, wait_of
 from e1gw.watcher.main import WatchLock, is_over, parser
 from e1gw.watcher.memo import WatchNote, blocks_told, note_in
-from e1gw.watcher.missed import told_again
+from e1gw.watcher.missed import replay_reports
 from e1gw.watcher.process import start_process
 from e1gw.watcher.reader import LogReader, ReadingNote
 from e1gw.watcher.recordings import RecordingNote
@@ -87,7 +87,7 @@ class WatchNoteTests(unittest.TestCase):
 
     def test_blocks(self) -> None:
         """What was told of a circuit is not told again, nor of one that is no longer blocked."""
-        kept = BlockedCircuits().taken((1, 2))
+        kept = BlockedCircuits().add((1, 2))
         self.assertEqual(blocks_told(kept, {1: 'BLOCKED', 3: 'IDLE'}).circuits,
                          {1: BlockStage.BLOCKED, 2: BlockStage.TAKEN})
         self.assertEqual(blocks_told(kept, {1: 'x'}), kept)
@@ -98,19 +98,19 @@ class SaidFileTests(support.FolderCase):
         """Whole ones, once each, also behind those of another watcher; None where another process begins."""
         self.write('said', 'one\ntw')
         its = SaidFile(self.path('said'), SaidNote())
-        self.assertEqual([[*its.news()], [*its.news()]], [[None, 'one'], []])
+        self.assertEqual([[*its.read_lines()], [*its.read_lines()]], [[None, 'one'], []])
         self.write('said', 'one\ntwo\n')
         later = SaidFile(self.path('said'), its.note)
-        self.assertEqual([[*later.news()], [*its.news()]], [['two'], ['two']])
+        self.assertEqual([[*later.read_lines()], [*its.read_lines()]], [['two'], ['two']])
         self.write('said', 'x\n')               # (it was cut, as too long)
-        self.assertEqual([*its.news()], ['x'])
+        self.assertEqual([*its.read_lines()], ['x'])
         self.write('new', 'three\n')
         with open(self.path('said'), 'a', encoding='ascii') as file:
             file.write('last\n')
         os.replace(self.path('new'), self.path('said'))
-        self.assertEqual([*its.news()], ['last', None, 'three'])
+        self.assertEqual([*its.read_lines()], ['last', None, 'three'])
         os.unlink(self.path('said'))
-        self.assertEqual([*its.news()], [])
+        self.assertEqual([*its.read_lines()], [])
         its.close()
         later.close()
 
@@ -236,7 +236,7 @@ class HolderDoorTests(support.LoopCase):
             writer.close()
         server = await asyncio.start_unix_server(came, self.path('hold'))
         try:
-            return await door.asked(self.path('hold'), 'reload force', 0.1 if answer is None else None)
+            return await door.ask(self.path('hold'), 'reload force', 0.1 if answer is None else None)
         finally:
             server.close()
             os.unlink(self.path('hold'))
@@ -250,7 +250,7 @@ class HolderDoorTests(support.LoopCase):
                 (None, CommandAnswer(AnswerWord.UNKNOWN, 'the holder does not answer within 0.1 s'))):
             self.assertEqual(await self.answers(said), answer)
             self.assertEqual(self.said, b'reload force\n')
-        self.assertRegex((await door.asked(self.path('hold'), 'quit')).lines('quit'),
+        self.assertRegex((await door.ask(self.path('hold'), 'quit')).lines('quit'),
                          'quit: refused: there is no holder: .*No such file')
 
 
@@ -278,7 +278,7 @@ class HeldTrunkTests(support.LoopCase):
             writer.close()
         await asyncio.start_unix_server(came, places.tell)
         await trunk.know_place()
-        self.assertEqual((trunk.begun(), reader.octets), (MULTIFRAME, 4 * MULTIFRAME))
+        self.assertEqual((trunk.start_octet(), reader.octets), (MULTIFRAME, 4 * MULTIFRAME))
 
 
 class ToldAgainTests(support.LoopCase):
@@ -287,7 +287,7 @@ class ToldAgainTests(support.LoopCase):
     def asked(self, *words: str) -> asyncio.Task[bytes]:
         """A log is read again by this command, which listens nowhere."""
         version = mock.Mock(start=lambda _, *more: start_process(words[0], words, *more))
-        return asyncio.create_task(told_again(version, [LogPair(1, 0, b'', b'')], self.folder))
+        return asyncio.create_task(replay_reports(version, [LogPair(1, 0, b'', b'')], self.folder))
 
     async def test_one_that_ends(self) -> None:
         with self.assertRaises(OSError):

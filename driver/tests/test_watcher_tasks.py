@@ -76,9 +76,9 @@ class JournalTests(unittest.TestCase):
         code = f'''import sys; sys.path[:0] = ["{support.TOP}/driver"]
 from e1gw.watcher import blocks
 from e1gw.watcher.journal import NOTICE, ServiceJournal
-from e1gw_common.tasks import goes_on
+from e1gw_common.tasks import reporting_failures
 journal = ServiceJournal('its name')
-with goes_on('the work'):
+with reporting_failures('the work'):
     raise ValueError('odd')
 blocks.logger.log(NOTICE, 'circuit 1: blocked')
 journal.close()'''
@@ -96,7 +96,7 @@ class TaskTests(unittest.IsolatedAsyncioTestCase):
             if fault := faults.pop(0):
                 raise fault
         with mock.patch.object(tasks, 'AGAIN', 0.0), self.assertLogs('e1gw_common.tasks') as told:
-            await tasks.again(work, 'the work')
+            await tasks.retry(work, 'the work')
         self.assertRegex(told.records[0].getMessage(),
                          r'^the work goes on: ValueError: odd \(test_watcher_tasks.py:\d+ in work\)$')
 
@@ -104,13 +104,13 @@ class TaskTests(unittest.IsolatedAsyncioTestCase):
         """The same for all, and none within a quarter of them."""
         for now, beat in (10.0, 10.08), (10.03, 10.32), (10.08, 10.32):
             with mock.patch.object(asyncio.get_running_loop(), 'time', lambda: now):
-                self.assertAlmostEqual(tasks.beat(0.24), beat)
+                self.assertAlmostEqual(tasks.next_beat(0.24), beat)
 
     async def test_either(self) -> None:
         """One event is enough, or the time; what has waited for them waits no more."""
         one, other = asyncio.Event(), asyncio.Event()
-        await tasks.either(0.0, one, other)
+        await tasks.wait_any(0.0, one, other)
         other.set()
-        await tasks.either(SECONDS, one, other)
+        await tasks.wait_any(SECONDS, one, other)
         await asyncio.sleep(0)
         self.assertEqual(asyncio.all_tasks(), {asyncio.current_task()})

@@ -215,7 +215,7 @@ class World:
         back = support.read_from(self.line, len(octets))
         self.sent += octets
         self.heard += back
-        self.exchange.hear(back)
+        self.exchange.receive(back)
         return back
 
     def _answer(self) -> None:

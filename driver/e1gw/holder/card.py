@@ -43,7 +43,7 @@ class Card:
 
     def close(self) -> None:
         """Watches it no more."""
-        self._loop.leave(self._channel.file)
+        self._loop.unwatch(self._channel.file)
 
 
 def span_of(channel: DahdiChannel) -> int:

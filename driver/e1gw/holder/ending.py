@@ -9,9 +9,9 @@ from typing import TYPE_CHECKING
 from e1gw_common.fault_words import words_of_fault
 from .decisions import Decision, EndFault, EndOfProgram, EndReason, NextAct, after_end
 from .job import Job
-from .journal import Severity, say
+from .journal import Severity, log_line
 from .log import is_there, put_aside
-from .program import CRASHES, HeldProgram, end_words, fault_in, taken
+from .program import CRASHES, HeldProgram, end_words, fault_in, counted_octets
 from .starting import move_folder
 
 if TYPE_CHECKING:
@@ -26,7 +26,7 @@ def is_late(program: HeldProgram, now: float) -> bool:
     return now >= min(inf if program.is_up else program.deadline, (program.asked or inf) + GRACE)
 
 
-def follow(holder: Holder, program: HeldProgram, status: int, now: float) -> None:
+def on_program_exit(holder: Holder, program: HeldProgram, status: int, now: float) -> None:
     """What follows a program that has ended with a status."""
     lines = program.lines()
     end, line_words = end_of(holder, program, status, now)
@@ -54,7 +54,7 @@ def end_of(holder: Holder, program: HeldProgram, status: int, now: float) -> tup
     reason = EndReason.END if holder.ending else holder.reason
     words = ''
     if reason is EndReason.NONE and was_up and (is_well or fault is EndFault.TRUNK):
-        words = holder.line.why_ended(taken(lines) or 0)
+        words = holder.line.why_ended(counted_octets(lines) or 0)
         if fault is EndFault.TRUNK:
             words = words or f'the trunk has ended: the program {end_words(status, lines)}'
     trial = holder.versions.trial if holder.versions.before else None
@@ -78,43 +78,43 @@ def do(holder: Holder, decided: Decision, words: str, now: float) -> None:
         case NextAct.REOPEN:
             holder.why = words
             for word in 'reload', 'renew':      # (the next program may be a long time to come)
-                holder.settle(word, words)
+                holder.answer_waiting(word, words)
             holder.line.end(words, now)
         case NextAct.GO_BACK:
             go_back(holder)
         case NextAct.NEW_LOG:
-            say(Severity.ERROR, f'{holder.why}: the log is put aside, and a new one begins')
+            log_line(Severity.ERROR, f'{holder.why}: the log is put aside, and a new one begins')
             holder.log.close()
             put_aside(f'{holder.folder}/log')
             holder.lost = ANEW
         case NextAct.MOVE_LOG:
             move_folder(holder, holder.why)
         case _ if decided.pause:
-            say(Severity.ERROR, f'{holder.why}: the next one begins in {decided.pause:g} s')
+            log_line(Severity.ERROR, f'{holder.why}: the next one begins in {decided.pause:g} s')
     if decided.act is not NextAct.START or decided.pause:     # (else the next one does it: calls wait)
-        holder.keep()
+        holder.store_descriptors()
         holder.tell()
 
 
 def go_back(holder: Holder) -> None:
     """The version before comes back."""
-    say(Severity.ERROR, f'reload: refused, the version before comes back: {holder.why}')
-    holder.versions.goes_back()
-    holder.settle('reload', f'the version before comes back: {holder.why}')
+    log_line(Severity.ERROR, f'reload: refused, the version before comes back: {holder.why}')
+    holder.versions.roll_back()
+    holder.answer_waiting('reload', f'the version before comes back: {holder.why}')
     holder.why = 'the version before comes back'
 
 
 def finish(holder: Holder, why: str, status: int) -> None:
     """No other program follows."""
-    say(Severity.ERROR if status else Severity.NOTICE, f'ends: {why}')
-    holder.store.say('STOPPING=1')
+    log_line(Severity.ERROR if status else Severity.NOTICE, f'ends: {why}')
+    holder.store.notify('STOPPING=1')
     holder.reloads.close()
     for word in {each.word for each in holder.requests}:
-        holder.settle(word, why)
+        holder.answer_waiting(word, why)
     is_kept = bool(holder.options.is_saved and is_there(f'{holder.folder}/log')) and not save(holder)
     holder.status = 1 if is_kept else status
     holder.line.close()
-    holder.sockets.keep(())
+    holder.sockets.close_others(())
     holder.store.forget()
     holder.door.close()
     if not is_kept:
@@ -143,5 +143,5 @@ def save(holder: Holder) -> bool:
     except OSError as fault:
         found = {'later': words_of_fault(fault)}
     if why := found.get('refused') or found.get('later'):
-        say(Severity.ERROR, f'the state is not saved, and the log stays: {why}')
+        log_line(Severity.ERROR, f'the state is not saved, and the log stays: {why}')
     return not why

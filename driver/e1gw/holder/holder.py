@@ -10,8 +10,8 @@ from e1gw_common.writers import put_file
 from .. import VERSION
 from ..holder_state import ACTIVE, INTERFACE, STANDBY, HolderState, start_of
 from .decisions import Deaths, EndReason, Renewals
-from .ending import finish, follow, is_late
-from .journal import Severity, has_failed, say
+from .ending import finish, on_program_exit, is_late
+from .journal import Severity, has_failed, log_line
 from .line import HeldLine
 from .log import FILES, HeldLog
 from .loop import Loop
@@ -40,7 +40,7 @@ class Holder:
         self.folder = options.folder
         self.sockets, self.log = HeldSockets(store.files), HeldLog(store.files)
         self.versions, self.reloads = Versions(None), Reloads(self)
-        self.door = Door(loop, self.asked)
+        self.door = Door(loop, self.handle_request)
         self.program: HeldProgram | None = None
         self.watcher: WatcherChild | None = None
         self.reason, self.requests = EndReason.NONE, list[HolderRequest]()  # why it is to end; who waits for another
@@ -76,7 +76,7 @@ class Holder:
             return SOON
         if self.store.lags:
             return LAGS
-        dues = [due for due in (self.due, self.line.due, self._ticked + TICK) if due > now]
+        dues = [due for due in (self.due, self.line.reopen_time, self._ticked + TICK) if due > now]
         return min(dues, default=now + TICK) - now
 
     def turn(self, now: float) -> None:
@@ -95,8 +95,8 @@ class Holder:
 
     def _look_at(self, program: HeldProgram, now: float) -> None:
         """Whether it has ended, is late, or has come to carry the trunk."""
-        if (status := program.ended()) is not None:
-            follow(self, program, status, now)
+        if (status := program.exit_status()) is not None:
+            on_program_exit(self, program, status, now)
         elif is_late(program, now):
             program.kill()
         elif not program.is_up and program.looks_up(f'{self.folder}/program'):
@@ -130,7 +130,7 @@ class Holder:
     def _is_opened(self) -> None:
         """It has come to be known whether the line can be opened."""
         if self.line.files:
-            self.keep()
+            self.store_descriptors()
             self.tell()
         elif self.options.line.reopens or self.was_up:
             self.waits('the trunk is not open yet')
@@ -144,8 +144,8 @@ class Holder:
             self.watcher.step(now)
         if self.versions.before and self.versions.trial and now >= self.versions.trial.until:
             self.versions.stays()
-            self.sockets.keep(self.versions.addresses())
-            self.keep()
+            self.sockets.close_others(self.versions.addresses())
+            self.store_descriptors()
             self.tell()
         self.listen()
         if self.program and self.program.is_up and not self.program.asked:
@@ -154,7 +154,7 @@ class Holder:
     def _see_to(self, program: HeldProgram, now: float) -> None:
         """Sees to a program that carries the trunk."""
         if program.is_stopped():
-            say(Severity.WARNING, f'program {program.pid} was stopped by a signal, and is killed')
+            log_line(Severity.WARNING, f'program {program.pid} was stopped by a signal, and is killed')
             return program.kill()
         program.forget_lines()
         if now >= self.renewals.due and self.versions.now and (
@@ -175,12 +175,12 @@ class Holder:
         try:
             os.makedirs(f'{self.folder}/log', 0o700, exist_ok=True)
         except OSError as fault:
-            say(Severity.ERROR, f'{words_of_fault(fault)}: the program goes on without its folder')
+            log_line(Severity.ERROR, f'{words_of_fault(fault)}: the program goes on without its folder')
             return words_of_fault(fault)
-        self.want(EndReason.RENEW, now)
+        self.request_end(EndReason.RENEW, now)
         return ''
 
-    def want(self, reason: EndReason, now: float) -> None:
+    def request_end(self, reason: EndReason, now: float) -> None:
         """The program of now is to end for this, unless for more."""
         if self.reason is not EndReason.RELEASE or reason is EndReason.END:
             self.reason = reason
@@ -190,10 +190,10 @@ class Holder:
     def end(self, why: str) -> None:
         """The end is asked for."""
         self.ending = self.ending or why
-        self.store.say('STOPPING=1')
-        self.want(EndReason.END, time.monotonic())
+        self.store.notify('STOPPING=1')
+        self.request_end(EndReason.END, time.monotonic())
 
-    def asked(self, request: HolderRequest) -> None:
+    def handle_request(self, request: HolderRequest) -> None:
         """Somebody asks for something at the socket."""
         now = time.monotonic()
         match request.text:
@@ -220,21 +220,21 @@ class Holder:
     def release(self) -> None:
         """The other machine carries the trunk, unless it was taken back meanwhile."""
         self.line.close()
-        self.sockets.keep(())
+        self.sockets.close_others(())
         if not self.is_active:
             give_log(self)
-            self.keep()
+            self.store_descriptors()
             self.waits('it does not have the trunk')
             for word in 'reload', 'renew', 'take':
-                self.settle(word, 'the trunk was released')
-        self.settle('release')
+                self.answer_waiting(word, 'the trunk was released')
+        self.answer_waiting('release')
 
-    def settle(self, word: str, refused: str = '') -> None:
+    def answer_waiting(self, word: str, refused: str = '') -> None:
         """Answers those who have waited for this."""
         its = [each for each in self.requests if each.word == word]
         self.requests = [each for each in self.requests if each.word != word]
         if its and refused and word == 'reload':
-            self.store.say('READY=1')           # (systemd waits for the end of it, too)
+            self.store.notify('READY=1')           # (systemd waits for the end of it, too)
         for each in its:
             if refused:
                 each.refused(refused)
@@ -243,15 +243,15 @@ class Holder:
 
     # ---- what others have and know ----
 
-    def kept(self) -> dict[str, int]:
+    def descriptors_to_store(self) -> dict[str, int]:
         """What the next holder needs, the line first."""
-        version = self.versions.kept()
+        version = self.versions.stored_version()
         its = {'program': version.program, 'tried': version.file} if version else {}
-        return {**self.line.kept(), **its, **self.log.files, **self.sockets.files}
+        return {**self.line.stored_files(), **its, **self.log.files, **self.sockets.files}
 
-    def keep(self) -> None:
+    def store_descriptors(self) -> None:
         """Has systemd keep that; nothing of a trunk that has ended, or is released."""
-        self.store.keep(self.kept() if self.is_active and self.status is None else {})
+        self.store.keep(self.descriptors_to_store() if self.is_active and self.status is None else {})
 
     def tell(self) -> None:
         """Puts down what others know of it."""
@@ -266,11 +266,11 @@ class Holder:
         try:
             put_file(f'{self.folder}/holder', state.spell(), 0o640)
         except OSError as fault:
-            say(Severity.WARNING, f'{words_of_fault(fault)}: who watches the trunk sees it as it was')
+            log_line(Severity.WARNING, f'{words_of_fault(fault)}: who watches the trunk sees it as it was')
 
     def waits(self, words: str) -> None:
         """It has begun, and waits for this."""
         if words != self._waits:
-            self.store.say('READY=1', f'STATUS={words}')
+            self.store.notify('READY=1', f'STATUS={words}')
         self._waits = words
         self.tell()

@@ -16,7 +16,7 @@ class Severity(IntEnum):
     NOTICE = 5
 
 
-def say(level: Severity, words: str) -> None:
+def log_line(level: Severity, words: str) -> None:
     """Says a line: to systemd's journal with its level, else with the name of the command."""
     front = f'<{int(level)}>' if 'JOURNAL_STREAM' in os.environ else f'{NAME}: '
     line = front + ' '.join(words.splitlines())
@@ -35,4 +35,4 @@ def has_failed(fault: BaseException, before: str) -> None:
     while at and at.tb_next:
         at = at.tb_next
     where = f' ({os.path.basename(at.tb_frame.f_code.co_filename)}:{at.tb_lineno})' if at else ''
-    say(Severity.ERROR, f'the holder goes on: {type(fault).__name__}: {fault}{where}')
+    log_line(Severity.ERROR, f'the holder goes on: {type(fault).__name__}: {fault}{where}')

@@ -13,7 +13,7 @@ from typing import Any, Mapping
 from e1gw_common.fault_words import words_of_fault
 from .card import Card, card_of
 from .decisions import Openings
-from .journal import Severity, say
+from .journal import Severity, log_line
 from .loop import Loop
 from .options import LineWants
 
@@ -39,16 +39,16 @@ class HeldLine:
             self.is_open()
 
     @property
-    def both(self) -> tuple[int, int]:
+    def program_files(self) -> tuple[int, int]:
         """Those for a program."""
         return self.files[self.reads], self.files.get(self.writes, self.files[self.reads])
 
-    def kept(self) -> dict[str, int]:
+    def stored_files(self) -> dict[str, int]:
         """Those for the next holder."""
         return self.files
 
     @property
-    def due(self) -> float:
+    def reopen_time(self) -> float:
         """When it is opened again."""
         return self._openings.due
 
@@ -77,18 +77,18 @@ class HeldLine:
     def has_failed(self, fault: str, now: float) -> None:
         """It is not open, and why: it is said once."""
         if fault != self.fault:
-            say(Severity.WARNING, f'{fault}; it is tried again' if self.options.reopens else fault)
+            log_line(Severity.WARNING, f'{fault}; it is tried again' if self.options.reopens else fault)
         self.fault = fault
         self._openings = self._openings.with_end(now)
 
     def _work(self) -> None:
         try:
-            self._found = self.opened()
+            self._found = self.open_files()
         except Exception as fault:      # pylint: disable=broad-exception-caught
             self._found = fault
         self.loop.wake()
 
-    def opened(self) -> Mapping[str, int]:
+    def open_files(self) -> Mapping[str, int]:
         """Opens it, in a thread. (What only that wants is loaded here: who has the descriptors does without.)"""
         stream = self.options.open()
         return {self.reads: stream.reads} | ({self.writes: stream.writes} if stream.writes != stream.reads else {})
@@ -96,7 +96,7 @@ class HeldLine:
     def is_open(self) -> None:
         """It has come to be open."""
         self.fault, self.since = '', time.time()
-        self.card = card_of(self.both[0], self.loop)
+        self.card = card_of(self.program_files[0], self.loop)
 
     # ---- while it is open ----
 
@@ -113,7 +113,7 @@ class HeldLine:
         end. Nothing if it has not."""
         if self.card and self.card.is_gone():
             return 'the card is gone'
-        return 'the trunk has ended' if has_ended(self.both[0], took) else ''
+        return 'the trunk has ended' if has_ended(self.program_files[0], took) else ''
 
     def note(self) -> dict[str, Any]:
         """What the process has to know that this one becomes, which has all descriptors."""

@@ -24,7 +24,7 @@ class Loop:
         self._watched[file] = call
         self._poll.register(file, events)
 
-    def leave(self, file: int) -> None:
+    def unwatch(self, file: int) -> None:
         """To be called before it is closed."""
         if self._watched.pop(file, None):
             with suppress(KeyError, OSError):

@@ -16,12 +16,12 @@ from .decisions import Beginning, beginning_of, is_active
 from .ending import LOST, finish
 from .holder import Holder
 from .job import Job
-from .journal import NAME, Severity, say
+from .journal import NAME, Severity, log_line
 from .line import HeldLine
 from .log import is_there, silence_of
 from .loop import Loop
 from .options import HELP, Options, OptionsRefused, options_of
-from .program import Child, HeldProgram, taken
+from .program import Child, HeldProgram, counted_octets
 from .requests import HolderRequest
 from .roles import give_log
 from .satop_line import SatopLine
@@ -44,7 +44,7 @@ def main(words: list[str] | None = None) -> NoReturn:
     try:
         options = options_of(words, os.environ)
     except OptionsRefused as fault:
-        say(Severity.ERROR, f'{fault}; see {NAME} --help{options_words()}')
+        log_line(Severity.ERROR, f'{fault}; see {NAME} --help{options_words()}')
         os._exit(2)
     loop, store = Loop(), Store()
     lock = locked(options, loop, store)
@@ -73,11 +73,11 @@ def locked(options: Options, loop: Loop, store: Store) -> int:
             make_own(options.folder)
             return lock
         except InUse as fault:
-            say(Severity.ERROR, f'process {fault} holds this trunk')
+            log_line(Severity.ERROR, f'process {fault} holds this trunk')
             os._exit(2)
         except OSError as fault:
             if (why := words_of_fault(fault)) != said:
-                say(Severity.ERROR, why)
+                log_line(Severity.ERROR, why)
             said = why
             if not options.line.reopens:
                 os._exit(1)
@@ -108,8 +108,8 @@ def begin(holder: Holder) -> None:
         holder.silent -= silence_of(log)
         holder.lost = LOST if has_died(holder.folder) else ''
         if 'DSCP' in os.environ:            # (it marks what this cgroup has opened, and that of before is gone)
-            holder.sockets.keep(())
-            holder.keep()
+            holder.sockets.close_others(())
+            holder.store_descriptors()
             store.let_go()
         if holder.line.files:
             holder.line.since = plain_in(f'{holder.folder}/holder').get('opened', holder.line.since)
@@ -120,10 +120,10 @@ def begin(holder: Holder) -> None:
     close_rest(holder)
     holder.listen()                         # (before it is known: who knows it may ask)
     if 'client' in store.files:             # .. who asked for a replacement, too
-        HolderRequest.of(store.files['client'], 'replace').done()
+        HolderRequest.from_stored(store.files['client'], 'replace').done()
     if not holder.is_active:
         holder.waits('it does not have the trunk')
-    holder.keep()
+    holder.store_descriptors()
     holder.tell()
 
 
@@ -177,14 +177,14 @@ def replaced(holder: Holder) -> None:
     holder.program = HeldProgram(Child(was['child'], holder.loop), files['leash'], files['said'])
     holder.since = was['since']
     holder.line.take_up(was['line'])
-    say(Severity.NOTICE, f'{holder.why}: program {was["child"]} goes on')
+    log_line(Severity.NOTICE, f'{holder.why}: program {was["child"]} goes on')
 
 
 def has_died(folder: str) -> bool:
     """Whether the program before this holder has ended in no order."""
     try:
         with open(f'{folder}/said', encoding='utf-8', errors='replace') as text:
-            return taken(text.read().splitlines()) is None
+            return counted_octets(text.read().splitlines()) is None
     except OSError:
         return True
 
@@ -201,7 +201,7 @@ def load(holder: Holder) -> None:
 
 def close_rest(holder: Holder) -> None:
     """Closes what was given and is not used."""
-    its = {*holder.kept().values(), *holder.line.files.values(), holder.lock}
+    its = {*holder.descriptors_to_store().values(), *holder.line.files.values(), holder.lock}
     program = holder.program
     if program:
         its |= {program.leash, program.said}

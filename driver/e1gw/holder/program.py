@@ -60,7 +60,7 @@ class Child:
         pid, status = os.waitpid(self.pid, os.WNOHANG)
         if not pid:
             return None
-        self._loop.leave(self._file)
+        self._loop.unwatch(self._file)
         os.close(self._file)
         return os.waitstatus_to_exitcode(status)
 
@@ -125,7 +125,7 @@ class HeldProgram:
         self.hangs = True
         self._child.kill()
 
-    def ended(self) -> int | None:
+    def exit_status(self) -> int | None:
         """Its status once it has ended, negative for a signal."""
         return self._child.ended()
 
@@ -171,7 +171,7 @@ def executable(program: int) -> int:
 
 # ---- what it says ----
 
-def taken(lines: Sequence[str]) -> int | None:
+def counted_octets(lines: Sequence[str]) -> int | None:
     """The octets that it has counted, which it says if it has ended in order."""
     return next((int(line[7:]) for line in lines if re.fullmatch(r'octets \d+', line)), None)
 

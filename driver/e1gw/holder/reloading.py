@@ -11,7 +11,7 @@ from e1gw_common.fault_words import words_of_fault
 from .decisions import EndReason
 from .ending import finish
 from .job import Job
-from .journal import Severity, say
+from .journal import Severity, log_line
 from .requests import HolderRequest
 from .starting import put_version
 from .version import Version, tried_in, version_of
@@ -60,7 +60,7 @@ class Reloads:
             return request.refused('the end is asked for')
         if self.is_busy or not holder.versions.now:
             return request.busy('one is tried already')
-        holder.store.say('RELOADING=1', f'MONOTONIC_USEC={time.monotonic_ns() // 1000}')
+        holder.store.notify('RELOADING=1', f'MONOTONIC_USEC={time.monotonic_ns() // 1000}')
         try:
             self._try(request, holder.versions.now)
         except OSError as fault:
@@ -97,7 +97,7 @@ class Reloads:
             version, request.told = version_of(self._program, tried_in(found['tried'])), found.get('changes', '')
             if found.get('runs') and request.has_client and not request.text.endswith(' force'):
                 return self._go_on(request, version)
-            return self._follow(request, version, found.get('told', ''), now)
+            return self._switch_to(request, version, found.get('told', ''), now)
         os.close(self._program)
         if request.word == 'begin':
             return self._has_no_version(found)
@@ -108,34 +108,34 @@ class Reloads:
         holder = self._holder
         holder.versions.differs_little(version)
         put_version(holder, version)
-        holder.keep()
+        holder.store_descriptors()
         holder.tell()
-        holder.store.say('READY=1')
+        holder.store.notify('READY=1')
         request.told = request.told or NOTHING
         request.done()
 
-    def _follow(self, request: HolderRequest, version: Version, told: str, now: float) -> None:
+    def _switch_to(self, request: HolderRequest, version: Version, told: str, now: float) -> None:
         """A program of this version follows."""
         holder = self._holder
         if told:
-            say(Severity.WARNING, f'reload: {told}')
+            log_line(Severity.WARNING, f'reload: {told}')
         if not version.its.is_proved:
-            say(Severity.WARNING, f'e1gw {version.its.name}: it is for trials, and takes more of a processor')
+            log_line(Severity.WARNING, f'e1gw {version.its.name}: it is for trials, and takes more of a processor')
         if request.told:
-            say(Severity.NOTICE, f'reload: {request.told}')
+            log_line(Severity.NOTICE, f'reload: {request.told}')
         holder.versions.follows(version)
         if holder.program and holder.is_active:
             holder.requests.append(request)
-            holder.want(EndReason.RELOAD, now)
+            holder.request_end(EndReason.RELOAD, now)
         elif holder.line.files and holder.is_active and request.word == 'reload':
             holder.requests.append(request)
             holder.due = now
         else:                               # (there is nothing to go back to)
             holder.versions.stays()
             put_version(holder, version)
-            holder.keep()
+            holder.store_descriptors()
             if request.word == 'reload':
-                holder.store.say('READY=1')
+                holder.store.notify('READY=1')
             request.done()
 
     def _has_no_version(self, found: Mapping[str, Any]) -> None:
@@ -144,14 +144,14 @@ class Reloads:
         if not holder.was_up and ('refused' in found or not holder.options.line.reopens):
             return finish(holder, why, 2 if 'refused' in found else 1)
         if why != self._said:
-            say(Severity.ERROR, f'{why}; it is tried again')
+            log_line(Severity.ERROR, f'{why}; it is tried again')
             holder.waits(why)
         self._said = why
         holder.due = time.monotonic() + AGAIN
 
     def _refuse(self, request: HolderRequest, why: str) -> None:
-        say(Severity.ERROR, f'reload: refused, the trunk goes on as it was: {why}')
-        self._holder.store.say('READY=1')
+        log_line(Severity.ERROR, f'reload: refused, the trunk goes on as it was: {why}')
+        self._holder.store.notify('READY=1')
         request.refused(f'the trunk goes on as it was: {why}')
 
     # ---- a holder ----
@@ -172,7 +172,7 @@ class Reloads:
         return ''
 
     def _keep_on(self, request: HolderRequest, why: str) -> None:
-        say(Severity.ERROR, f'replace: refused: {why}')
+        log_line(Severity.ERROR, f'replace: refused: {why}')
         request.refused(why)
 
     def _become(self, request: HolderRequest, found: Mapping[str, Any]) -> None:
@@ -181,9 +181,9 @@ class Reloads:
         if why or not program:
             return self._keep_on(request, why)
         holder.versions.stays()             # (its trial ends here)
-        holder.keep()
+        holder.store_descriptors()
         client = request.detach()
-        files = {**holder.kept(), **holder.line.files, 'leash': program.leash, 'said': program.said,
+        files = {**holder.descriptors_to_store(), **holder.line.files, 'leash': program.leash, 'said': program.said,
                  'lock': holder.lock} | ({'client': client} if client >= 0 else {})
         holder.store.become_next(files, {'child': program.pid, 'since': holder.since, 'line': holder.line.note(),
                                          'watcher': holder.watcher.pid if holder.watcher else 0})

@@ -23,7 +23,7 @@ class HolderRequest:
         return self._line is not None
 
     @classmethod
-    def of(cls, file: int, text: str) -> HolderRequest:
+    def from_stored(cls, file: int, text: str) -> HolderRequest:
         """One that was made of the process which has become this one."""
         return cls(socket.socket(fileno=file), text)
 
@@ -71,15 +71,15 @@ class Door:
         self._line.bind(path)
         os.chmod(path, 0o600)
         self._line.listen(MOST_CLIENTS)
-        self._loop.watch(self._line.fileno(), self._comes)
+        self._loop.watch(self._line.fileno(), self._accept)
 
     def close(self) -> None:
         if self._line:
-            self._loop.leave(self._line.fileno())
+            self._loop.unwatch(self._line.fileno())
             self._line.close()
         self._line = None
 
-    def _comes(self) -> None:
+    def _accept(self) -> None:
         with suppress(OSError):
             assert self._line
             line = self._line.accept()[0]
@@ -87,13 +87,13 @@ class Door:
             if len(self._clients) >= MOST_CLIENTS:
                 self._drop(next(iter(self._clients))).close()
             self._clients[line.fileno()] = line, bytearray()
-            self._loop.watch(line.fileno(), lambda: self._says(line))
+            self._loop.watch(line.fileno(), lambda: self._read_request(line))
 
     def _drop(self, file: int) -> socket.socket:
-        self._loop.leave(file)
+        self._loop.unwatch(file)
         return self._clients.pop(file)[0]
 
-    def _says(self, line: socket.socket) -> None:
+    def _read_request(self, line: socket.socket) -> None:
         file, octets = line.fileno(), b''
         said = self._clients[file][1]
         with suppress(OSError):

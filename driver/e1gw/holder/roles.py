@@ -9,7 +9,7 @@ from e1gw_common.writers import put_file
 from ..holder_state import ACTIVE, STANDBY
 from .decisions import EndReason
 from .ending import ANEW
-from .journal import Severity, say
+from .journal import Severity, log_line
 from .log import is_there, remove, rename_over, silence_of
 from .requests import HolderRequest
 
@@ -31,14 +31,14 @@ def change_role(holder: Holder, request: HolderRequest, now: float) -> None:
             holder.line.number = int(request.text[5:]) & 0xffff if request.text[5:] else None
         holder.is_active, holder.due = is_active, now
         put_role(holder)
-        holder.settle('release' if is_active else 'take', REVERSE)
+        holder.answer_waiting('release' if is_active else 'take', REVERSE)
     if is_active and program and program.is_up and not program.asked:
         return request.done()
     holder.requests.append(request)
     if not (is_active or program):
         holder.release()
     elif not is_active:
-        holder.want(EndReason.RELEASE, now)
+        holder.request_end(EndReason.RELEASE, now)
     holder.tell()
 
 
@@ -47,7 +47,7 @@ def put_role(holder: Holder) -> None:
     try:
         put_file(f'{holder.folder}/role', (ACTIVE if holder.is_active else STANDBY).encode(), 0o640)
     except OSError as fault:
-        say(Severity.ERROR, f'{words_of_fault(fault)}: a holder that is begun again may have another role')
+        log_line(Severity.ERROR, f'{words_of_fault(fault)}: a holder that is begun again may have another role')
 
 
 def take_log(holder: Holder, now: float) -> None:
@@ -63,7 +63,7 @@ def take_log(holder: Holder, now: float) -> None:
     try:
         has_log = holder.log.put_back(log)
     except OSError as fault:
-        say(Severity.WARNING, f'{words_of_fault(fault)}: what was fed is not copied')
+        log_line(Severity.WARNING, f'{words_of_fault(fault)}: what was fed is not copied')
         rename_over(fed, log)
         has_log = True
     if has_log:
@@ -79,4 +79,4 @@ def give_log(holder: Holder) -> None:
     try:
         rename_over(f'{holder.folder}/log', f'{holder.folder}/fed')
     except OSError as fault:
-        say(Severity.ERROR, f'{words_of_fault(fault)}: what is known of the trunk is lost')
+        log_line(Severity.ERROR, f'{words_of_fault(fault)}: what is known of the trunk is lost')

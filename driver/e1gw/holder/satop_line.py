@@ -15,7 +15,7 @@ from e1gw_common.writers import put_file
 from ..holder_state import fields_of
 from ..satop_numbers import ENDS, begun_in, lines_in, number_of_now
 from .decisions import Openings
-from .journal import Severity, say
+from .journal import Severity, log_line
 from .line import HeldLine
 from .loop import Loop
 from .options import LineWants
@@ -42,7 +42,7 @@ class SatopLine(HeldLine):
         super().__init__(options, files, loop)
 
     @property
-    def both(self) -> tuple[int, int]:
+    def program_files(self) -> tuple[int, int]:
         return self.files[self.reads], self.files[self.reads]
 
     @property
@@ -50,17 +50,17 @@ class SatopLine(HeldLine):
         """Of the process; 0 without one."""
         return self._child.pid if self._child else 0
 
-    def kept(self) -> dict[str, int]:
+    def stored_files(self) -> dict[str, int]:
         return {}
 
     @property
-    def due(self) -> float:
+    def reopen_time(self) -> float:
         dues = [self._ones_due] if self._ones_due else []
-        return min([*dues, self._restarts.due if self.files and not self._child else super().due])
+        return min([*dues, self._restarts.due if self.files and not self._child else super().reopen_time])
 
     # ---- its beginning ----
 
-    def opened(self) -> Mapping[str, int]:
+    def open_files(self) -> Mapping[str, int]:
         """Looks both ends up, unless that is known, and makes the pair."""
         from ..satop import addresses_of, ends_of
         before = begun_in(self._path)
@@ -93,9 +93,9 @@ class SatopLine(HeldLine):
             self._child = Child(os.posix_spawn(
                 self.options.program, ['e1gw', 'satop', *self._words, '--sequence', str(number)], os.environ,
                 file_actions=[(os.POSIX_SPAWN_DUP2, file, to) for to, file in enumerate((far, far, said))],
-                setsid=True, setsigmask=[], setsigdef=[signal.SIGPIPE]), self.loop, self._ended)
+                setsid=True, setsigmask=[], setsigdef=[signal.SIGPIPE]), self.loop, self._on_exit)
         except OSError as fault:
-            say(Severity.ERROR, f'e1gw satop cannot be started: {fault.strerror}')
+            log_line(Severity.ERROR, f'e1gw satop cannot be started: {fault.strerror}')
             self._restarts = self._restarts.with_end(now)
         finally:
             os.close(said)
@@ -120,13 +120,13 @@ class SatopLine(HeldLine):
         if self._child and fields_of(self._child.pid)[:1] == ['T']:
             self._child.kill()
         elif not self._child and not self._why and (now >= self._restarts.due or self._lacked and self._can_send()):
-            self._start_again(now)
+            self._restart(now)
 
     def _can_send(self) -> bool:
         from ..satop import can_send
         return can_send(self._words)
 
-    def _start_again(self, now: float) -> None:
+    def _restart(self, now: float) -> None:
         """Octets are missing then, so with CRC-4 the program and the far end are given ones, behind which they look for
         multiframes again: moved by half a multiframe each submultiframe would be right, and E bits read where there are
         none."""
@@ -137,7 +137,7 @@ class SatopLine(HeldLine):
         if self._child:
             self.fault = ''
 
-    def _ended(self) -> None:
+    def _on_exit(self) -> None:
         """The process has ended. One that has done so by itself ends the line, unless it failed and is tried again."""
         status, now = self._reap(), time.monotonic()
         if status is None:
@@ -147,7 +147,7 @@ class SatopLine(HeldLine):
             self._why = f'{BROKEN}: {words}' if status else ENDED
             return shut(self.files[self.writes])    # (the program is given what has come, and ends behind that)
         self.fault = f'{BROKEN}: {words}'
-        say(Severity.WARNING, self.fault)
+        log_line(Severity.WARNING, self.fault)
         self.step(now)
 
     def _reap(self) -> int | None:
@@ -180,7 +180,7 @@ class SatopLine(HeldLine):
         super().take_up(note)
         self._words, self._why = note['words'], note['why']
         if note['pid']:
-            self._child = Child(note['pid'], self.loop, self._ended)
+            self._child = Child(note['pid'], self.loop, self._on_exit)
 
 
 @contextmanager

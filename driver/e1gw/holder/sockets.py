@@ -25,7 +25,7 @@ def address_in(name: str) -> Address:
     return host.replace('_', ':'), int(port)
 
 
-def bound(host: str, port: int) -> int:
+def bind_socket(host: str, port: int) -> int:
     """A socket there, on which nothing waits. OSError if it cannot be had."""
     with socket.socket(socket.AF_INET6 if ':' in host else socket.AF_INET, socket.SOCK_DGRAM) as line:
         line.setblocking(False)
@@ -52,17 +52,17 @@ class HeldSockets:
         for n, address in wanted.items():
             if address not in self._held:
                 try:
-                    self._held[address] = bound(*address)
+                    self._held[address] = bind_socket(*address)
                 except (OSError, ValueError) as fault:
                     self.lacking[n] = str(fault)
         return bool(before.keys() - self.lacking.keys())
 
-    def keep(self, addresses: Iterable[Address]) -> None:
+    def close_others(self, addresses: Iterable[Address]) -> None:
         """Lets all others go."""
         for address in self._held.keys() - {*addresses}:
             os.close(self._held.pop(address))
 
-    def given(self, wanted: Mapping[int, Address]) -> list[int]:
+    def program_descriptors(self, wanted: Mapping[int, Address]) -> list[int]:
         """The descriptors for a program."""
         return sorted(self._held[address] for address in wanted.values() if address in self._held)
 

@@ -13,7 +13,7 @@ from e1gw_common.fault_words import name_of_process, words_of_fault
 from e1gw_common.writers import put_file
 from ..holder_state import folder_in_memory
 from .decisions import FIRST_PAUSE
-from .journal import Severity, say
+from .journal import Severity, log_line
 from .log import has_log, user_of
 from .program import HeldProgram, ProgramWants
 from .version import Version
@@ -41,7 +41,8 @@ def start(holder: Holder, now: float) -> None:
     said = said_in(holder.folder)
     try:
         holder.program = HeldProgram.started(ProgramWants(
-            version.program, config, holder.folder, holder.line.both, holder.sockets.given(version.its.ports), said,
+            version.program, config, holder.folder, holder.line.program_files,
+            holder.sockets.program_descriptors(version.its.ports), said,
             ['--senders', version.its.senders, *holder.options.words]), holder.loop,
             now + (RELOADED if holder.versions.before else START))
     except OSError:
@@ -58,7 +59,7 @@ def put_back_log(holder: Holder) -> None:
             raise
         is_back = holder.log.put_back(f'{holder.folder}/log')
     if is_back:
-        say(Severity.WARNING, 'the log was gone, and is put back')
+        log_line(Severity.WARNING, 'the log was gone, and is put back')
 
 
 def put_version(holder: Holder, version: Version) -> str:
@@ -86,7 +87,7 @@ def move_folder(holder: Holder, why: str) -> bool:
     other = folder_in_memory(holder.options.folder)
     if holder.folder == other:
         return False
-    say(Severity.ERROR, f'{why}: the folder of the trunk is {other} from now on')
+    log_line(Severity.ERROR, f'{why}: the folder of the trunk is {other} from now on')
     os.makedirs(f'{other}/log', 0o700, exist_ok=True)
     holder.folder = other
     return True
@@ -104,9 +105,9 @@ def waits_for_log(holder: Holder, now: float) -> bool:
     if pid != holder.log_user[0]:
         holder.log_user = pid, now
         if not is_left:
-            say(Severity.ERROR, f'the log is in use by {name_of(pid)}: the next program waits for that')
+            log_line(Severity.ERROR, f'the log is in use by {name_of(pid)}: the next program waits for that')
     if is_left and now >= holder.log_user[1] + LEFT:
-        say(Severity.WARNING, f'program {pid} goes on without a holder, and is killed')
+        log_line(Severity.WARNING, f'program {pid} goes on without a holder, and is killed')
         holder.log_user = pid, now
         with suppress(OSError):
             os.kill(pid, signal.SIGKILL)
@@ -130,7 +131,7 @@ def bind(holder: Holder, now: float) -> None:
     known = {*sockets.lacking}
     sockets.bind(version.its.ports)
     for n in sorted(sockets.lacking.keys() - known):
-        say(Severity.ERROR, f'circuit {n} has no port: {sockets.lacking[n]}; it is tried again each second')
+        log_line(Severity.ERROR, f'circuit {n} has no port: {sockets.lacking[n]}; it is tried again each second')
 
 
 def said_in(folder: str) -> int:
@@ -150,16 +151,16 @@ def up(holder: Holder, now: float) -> None:
     words = f'{holder.why}: program {program.pid} {after}{holder.lost}'
     holder.was_up, holder.since = True, time.time()
     versions.is_up(now)
-    holder.sockets.keep(versions.addresses())
+    holder.sockets.close_others(versions.addresses())
     with suppress(OSError):                 # (it was removed in this moment: the next program has another one)
         holder.log.hold(f'{holder.folder}/log')
     with suppress(OSError):
         if holder.options.state:
             os.unlink(holder.options.state)     # (it is no longer the state of the trunk)
-    holder.keep()
+    holder.store_descriptors()
     holder.tell()
-    say(Severity.WARNING if holder.lost else Severity.NOTICE, words)
+    log_line(Severity.WARNING if holder.lost else Severity.NOTICE, words)
     holder.lost = ''
-    holder.store.say('READY=1', f'STATUS=program {program.pid}')
+    holder.store.notify('READY=1', f'STATUS=program {program.pid}')
     for word in 'reload', 'renew', 'take':
-        holder.settle(word)
+        holder.answer_waiting(word)

@@ -67,7 +67,7 @@ class Store:
             return False
         return True
 
-    def say(self, *lines: str) -> None:
+    def notify(self, *lines: str) -> None:
         """Tells what has to be told, in this order."""
         self._pending.append('\n'.join(lines))
         self.send()

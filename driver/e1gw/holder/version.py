@@ -101,7 +101,7 @@ class Versions:
             self.before.close()
         self.before = self.trial = None
 
-    def goes_back(self) -> None:
+    def roll_back(self) -> None:
         """To the one before."""
         if self.before and self.now:
             self.now.close()
@@ -111,7 +111,7 @@ class Versions:
         """A program of the version of now carries the trunk."""
         self.trial = self.trial and self.trial.is_up(now)
 
-    def kept(self) -> Version | None:
+    def stored_version(self) -> Version | None:
         """The one with which the next holder goes on: one that was never up is for none."""
         return self.before if self.before and self.trial and self.trial.until == inf else self.now
 

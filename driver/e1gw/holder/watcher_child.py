@@ -9,7 +9,7 @@ from math import inf
 from e1gw_common.fault_words import words_of_fault
 from ..holder_state import STARTED_BY
 from .decisions import Openings
-from .journal import Severity, say
+from .journal import Severity, log_line
 from .loop import Loop
 from .program import Child, end_words
 
@@ -29,7 +29,7 @@ class WatcherChild:
 
     def take_up(self, pid: int) -> None:
         """The process that this one was before has started it."""
-        self._child = Child(pid, self._loop, self._ended)
+        self._child = Child(pid, self._loop, self._on_exit)
 
     def step(self, now: float) -> None:
         """To be called now and then: starts it, if it is due."""
@@ -40,13 +40,13 @@ class WatcherChild:
             self.take_up(os.posix_spawn(self._words[0], self._words, {**os.environ, STARTED_BY: str(os.getpid())},
                                         setsigmask=[], setsigdef=[signal.SIGPIPE]))
         except OSError as fault:
-            say(Severity.ERROR, f'e1gw-watch is not started: {words_of_fault(fault, self._words[0])}')
+            log_line(Severity.ERROR, f'e1gw-watch is not started: {words_of_fault(fault, self._words[0])}')
             self._restarts = Openings(due=inf)
 
-    def _ended(self) -> None:
+    def _on_exit(self) -> None:
         if not self._child or (code := self._child.ended()) is None:
             return
         self._child = None
         self._restarts = Openings(due=inf) if code in REFUSED else self._restarts.with_end(time.monotonic())
         if code not in REFUSED:
-            say(Severity.WARNING, f'e1gw-watch {end_words(code, [])}, and is started again')
+            log_line(Severity.WARNING, f'e1gw-watch {end_words(code, [])}, and is started again')

@@ -55,18 +55,18 @@ class BlockedCircuits:
 
     circuits: Mapping[int, BlockStage] = field(default_factory=dict)
 
-    def taken(self, circuits: Iterable[int]) -> BlockedCircuits:
+    def add(self, circuits: Iterable[int]) -> BlockedCircuits:
         """He takes these, too."""
         return BlockedCircuits({**dict.fromkeys(circuits, BlockStage.TAKEN), **self.circuits})
 
     def given_back(self, circuits: Container[int]) -> BlockedCircuits:
         return BlockedCircuits({n: its for n, its in self.circuits.items() if n not in circuits})
 
-    def only(self, circuits: Collection[int]) -> BlockedCircuits:
+    def replace_all(self, circuits: Collection[int]) -> BlockedCircuits:
         """He has taken these and no others: another machine says so."""
-        return self.given_back({*CIRCUITS} - {*circuits}).taken(circuits)
+        return self.given_back({*CIRCUITS} - {*circuits}).add(circuits)
 
-    def looked(self, lines: Mapping[int, Line], busy: Container[int]) -> tuple[BlockedCircuits, list[int], News]:
+    def block_next(self, lines: Mapping[int, Line], busy: Container[int]) -> tuple[BlockedCircuits, list[int], News]:
         """Which circuits are given a block, as the lines stand, and news. A `busy` one has a command under way."""
         found = {n: before if n in busy else stage_of(lines[n]) for n, before in self.circuits.items()}
         news: News = {what: [] for what in BlockNews}
@@ -76,13 +76,13 @@ class BlockedCircuits:
                 news[in_call if found[n] is BlockStage.IN_CALL else BlockNews.BLOCKED].append(n)
         return BlockedCircuits(found), [n for n, now in found.items() if now is BlockStage.IDLE and n not in busy], news
 
-    def left(self, circuits: Iterable[int] = CIRCUITS) -> list[int]:
+    def not_yet_blocked(self, circuits: Iterable[int] = CIRCUITS) -> list[int]:
         """Those of these circuits that are not blocked yet."""
         return [n for n in circuits if self.circuits.get(n, BlockStage.BLOCKED) is not BlockStage.BLOCKED]
 
     def word(self, circuit: int) -> str | None:
         """What a status says of a circuit; None of one in service."""
-        news = BlockNews.BLOCKING if self.left([circuit]) else BlockNews.BLOCKED
+        news = BlockNews.BLOCKING if self.not_yet_blocked([circuit]) else BlockNews.BLOCKED
         return str(news) if circuit in self.circuits else None
 
 
@@ -94,7 +94,7 @@ class KeptBlocks:
         self._writing: asyncio.Task[str] | None = None
         try:
             with suppress(FileNotFoundError), open(path, encoding='ascii') as file:
-                self.now = BlockedCircuits().only({*CIRCUITS} & {*json.loads(file.read(4096))})
+                self.now = BlockedCircuits().replace_all({*CIRCUITS} & {*json.loads(file.read(4096))})
         except (OSError, ValueError, TypeError) as fault:
             logger.error('which circuits the operator has blocked is not known: %s', words_of_fault(fault, path))
 
@@ -141,7 +141,7 @@ class BlockWatch:
     def look(self) -> None:
         """To be called at each change and now and then: blocks what is to be blocked, and tells what has changed."""
         if self.kept.now.circuits and self._state.live:
-            self.kept.now, blocks, news = self.kept.now.looked(self._state.lines, +self._busy)
+            self.kept.now, blocks, news = self.kept.now.block_next(self._state.lines, +self._busy)
             for n in blocks:
                 self._busy[n] += 1
                 self._blocks.begin(self._block(n))
@@ -169,7 +169,7 @@ class BlockWatch:
 
     async def take(self, circuits: Collection[int], is_now: bool) -> CommandAnswer:
         """The operator takes circuits, and has their calls cleared if he wants that `now`. What he is told."""
-        told = await self._kept(self.kept.now.taken(circuits))
+        told = await self._kept(self.kept.now.add(circuits))
         ends = {n: command for n in circuits if is_now and (command := self._state.lines[n].ending())}
         if ends:
             self._tell(CallsCleared('the operator blocks them', tuple(ends)))
@@ -178,7 +178,7 @@ class BlockWatch:
         if self._blocks:
             await asyncio.wait(self._blocks, timeout=PATIENCE)
         self.look()
-        left = circuit_words(self.kept.now.left(circuits))
+        left = circuit_words(self.kept.now.not_yet_blocked(circuits))
         told += [f'blocking, until their calls have ended: circuits {left}'] * bool(left)
         return DONE._replace(told=(*told,))
 
@@ -190,7 +190,7 @@ class BlockWatch:
             lines[n].state is State.BLOCKED or n in its and (self._busy[n] or not self._state.live))]
         answers = dict(zip(blocked, await asyncio.gather(*(self._give(n, Command.UNBLOCK) for n in blocked))))
         faults = {n: answer for n, answer in answers.items() if not (answer.is_done or answer.refusal is NOT_BLOCKED)}
-        told = await self._kept(self.kept.now.taken(its & faults.keys())) if its else []
+        told = await self._kept(self.kept.now.add(its & faults.keys())) if its else []
         self._report({BlockNews.UNBLOCKED: sorted(its - faults.keys())})
         if faults:
             first = next(iter(faults.values()))

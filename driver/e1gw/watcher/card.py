@@ -28,7 +28,7 @@ class CardWatch:
         self._said, self._due = '', -inf
 
     @property
-    def told(self) -> int:
+    def as_told(self) -> int:
         return int(self._told)
 
     def look(self, span: int) -> None:

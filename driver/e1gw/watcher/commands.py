@@ -34,7 +34,7 @@ from e1gw_common.session import Codec, Command, circuit_of, circuits_of, codec_r
 from e1gw_common.tasks import Tasks
 from ..events import WatchEnded
 from ..metrics import circuit_table
-from .decisions import who_goes
+from .decisions import choose_evicted
 
 if TYPE_CHECKING:
     from .watch import TrunkWatch
@@ -85,28 +85,28 @@ class CommandServer:
         """Who has asked for events."""
         return [peer for peer in self._peers if peer.follows]
 
-    def came(self, reader: asyncio.StreamReader, writer: asyncio.StreamWriter) -> asyncio.Task[None]:
+    def on_connect(self, reader: asyncio.StreamReader, writer: asyncio.StreamWriter) -> asyncio.Task[None]:
         """A client has connected."""
-        return self._tasks.begun(self._serve(reader, writer))
+        return self._tasks.create(self._serve(reader, writer))
 
     async def _serve(self, reader: asyncio.StreamReader, writer: asyncio.StreamWriter) -> None:
         """A line in, an answer and an empty line out."""
         if len(self._peers) >= MOST_CLIENTS:
-            out = who_goes(self._peers)
+            out = choose_evicted(self._peers)
             self._peers.discard(out)
             out.turn_away()
         self._peers.add(peer := ControlPeer(writer))
         with contextlib.suppress(OSError, ValueError, asyncio.LimitOverrunError):
             while (line := await reader.readline()).endswith(b'\n'):
                 peer.last = time.monotonic()
-                self._trunk.disconnects.said(peer, peer.last)
+                self._trunk.disconnects.on_message(peer, peer.last)
                 if words := line.decode(errors='replace').split():
                     writer.write(f'{await self._obey(words, peer)}\n\n'.encode())
                     await writer.drain()
                 await asyncio.sleep(0)          # (one line of each who asks)
                 peer.follows |= words == ['events']
         self._peers.discard(peer)
-        self._trunk.disconnects.left(peer, time.monotonic())
+        self._trunk.disconnects.on_disconnect(peer, time.monotonic())
         writer.close()
 
     async def _obey(self, words: list[str], peer: ControlPeer) -> str:
@@ -124,8 +124,8 @@ class CommandServer:
             case ['events']:
                 return 'following'
             case ['on-loss', *rest]:
-                answer = self._trunk.disconnects.asked(peer, rest, peer.last)
-                peer.holds = self._trunk.disconnects.holds(peer)
+                answer = self._trunk.disconnects.request(peer, rest, peer.last)
+                peer.holds = self._trunk.disconnects.has_request_of(peer)
                 return answer.lines('on-loss')
             case ['help']:
                 return (__doc__ or '').partition('\n\n')[2].rstrip('\n')
@@ -140,7 +140,7 @@ class CommandServer:
             case ['block' | 'unblock' as name, word, 'auto']:
                 return await self._obey_circuit(name, [word])
             case ['quit']:
-                return (await self._trunk.trunk.ends()).lines('quit')
+                return (await self._trunk.trunk.is_ending()).lines('quit')
             case ['codec', *rest]:
                 return await self._obey_codec(rest)
             case [name, *rest] if name in COMMANDS:

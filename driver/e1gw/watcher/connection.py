@@ -55,7 +55,7 @@ class ProgramConnection:
                 self._stands('control', True, '')
                 while True:
                     kind, circuit, length = HEAD.unpack(await reader.readexactly(HEAD.size))
-                    self._take(kind, circuit, await reader.readexactly(length))
+                    self._parse_answer(kind, circuit, await reader.readexactly(length))
             except asyncio.IncompleteReadError:
                 why = 'it has closed the connection'
             except (ValueError, IndexError):
@@ -63,17 +63,17 @@ class ProgramConnection:
             except OSError as fault:
                 why = words_of_fault(fault)
             finally:
-                self._lose()
+                self._on_disconnect()
             self._stands('control', False, f'{self._path()}: {why}')
             await asyncio.sleep(AGAIN)
 
-    def _take(self, kind: int, circuit: int, body: bytes) -> None:
+    def _parse_answer(self, kind: int, circuit: int, body: bytes) -> None:
         """An answer of the program. ValueError or IndexError if it is none."""
         record = Record(Kind(kind), circuit, body)
         record.refusal      # pylint: disable=pointless-statement
         [each for each in self._given if not each.answer.done()][0].answer.set_result(record)
 
-    def _lose(self) -> None:
+    def _on_disconnect(self) -> None:
         if self._writer:
             self._writer.close()
             self._lost = time.monotonic()
@@ -104,7 +104,7 @@ class ProgramConnection:
             with suppress(ValueError):
                 self._given.remove(given)
 
-    def told(self, record: bytes) -> None:
+    def on_record(self, record: bytes) -> None:
         """A record is reported."""
         for each in self._given:
             if each.record == record and not each.told.is_set():

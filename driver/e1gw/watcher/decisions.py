@@ -28,7 +28,7 @@ class Flow:
     stood: float | None = None
     stalls: int = 0
 
-    def seen(self, place: int, now: float, is_watched: bool) -> tuple[Flow, FlowChange | None]:
+    def update(self, place: int, now: float, is_watched: bool) -> tuple[Flow, FlowChange | None]:
         """The trunk is at this place. Only what somebody reports (`is_watched`) can be missed."""
         if place != self.place:
             return Flow(place, now, None, self.stalls), None if self.stood is None else FlowChange.FLOWS
@@ -49,7 +49,7 @@ class IdleReloads:
         """Whether it is to be asked, where the circuits that wait are in these states."""
         return now >= self.due and any(state not in IN_CALL for state in waiting)
 
-    def asked(self) -> IdleReloads:
+    def is_requested(self) -> IdleReloads:
         return IdleReloads(inf)
 
     def answered(self, now: float, is_done: bool) -> IdleReloads:
@@ -70,7 +70,7 @@ class Client(Protocol):
 C = TypeVar('C', bound=Client)
 
 
-def who_goes(clients: Iterable[C]) -> C:
+def choose_evicted(clients: Iterable[C]) -> C:
     """Who gives way to one more: the one idle for longest, of those who follow no events and hold no calls if there are
     any, else of those who hold none."""
     return min(clients, key=lambda each: (each.holds, each.follows, each.last))

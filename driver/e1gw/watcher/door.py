@@ -9,7 +9,7 @@ from e1gw_common.faults import words_of_fault
 PATIENCE = 90.0             # seconds for a version to be tried, and for a program of it to carry the trunk
 
 
-async def heard(path: str, words: str, seconds: float) -> str:
+async def ask_within(path: str, words: str, seconds: float) -> str:
     """The answer of the holder to words; nothing if it ends before. TimeoutError if it says none in time, OSError if
     there is no holder."""
     async with asyncio.timeout(seconds):
@@ -21,11 +21,11 @@ async def heard(path: str, words: str, seconds: float) -> str:
             writer.close()
 
 
-async def asked(path: str, words: str, seconds: float | None = None) -> CommandAnswer:
+async def ask(path: str, words: str, seconds: float | None = None) -> CommandAnswer:
     """The answer of the holder to words, or that there is none."""
     seconds = PATIENCE if seconds is None else seconds
     try:
-        lines = (await heard(path, words, seconds)).splitlines()
+        lines = (await ask_within(path, words, seconds)).splitlines()
     except TimeoutError:
         return CommandAnswer(AnswerWord.UNKNOWN, f'the holder does not answer within {seconds:g} s')
     except OSError as fault:

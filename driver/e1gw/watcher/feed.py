@@ -103,7 +103,7 @@ class FeedServer:
         """How many seconds ago the standby had all that the log had; None if there is none."""
         return time.monotonic() - self._fresh if self._fresh else None
 
-    async def answers(self) -> bool:
+    async def is_up_to_date(self) -> bool:
         """Whether the standby says within a moment that it has all up to now."""
         since = time.monotonic()
         for _ in range(ANSWERS):
@@ -121,9 +121,9 @@ class FeedServer:
         if self._writer:
             self._writer.transport.abort()
 
-    def came(self, reader: asyncio.StreamReader, writer: asyncio.StreamWriter) -> asyncio.Task[None]:
+    def on_connect(self, reader: asyncio.StreamReader, writer: asyncio.StreamWriter) -> asyncio.Task[None]:
         """Somebody has connected."""
-        return self._tasks.begun(self._serve(reader, writer))
+        return self._tasks.create(self._serve(reader, writer))
 
     async def _serve(self, reader: asyncio.StreamReader, writer: asyncio.StreamWriter) -> None:
         """It is the standby, in place of itself before, or a stranger."""
@@ -153,7 +153,7 @@ class FeedServer:
 
     async def _feed(self, program: int, reader: asyncio.StreamReader, writer: asyncio.StreamWriter) -> None:
         """Until the program has ended, and the standby has all and leaves. EOFError if it leaves before."""
-        leaves = asyncio.ensure_future(self._hear(reader))
+        leaves = asyncio.ensure_future(self._read_standby(reader))
         try:
             with closing(LogFiles(self._trunk.places().log)) as files:
                 log = self._begin(program, files, writer)
@@ -161,7 +161,7 @@ class FeedServer:
                     has_ended = self._trunk.state.program != program
                     has_room = writer.transport.get_write_buffer_size() < MOST_PIECE
                     if has_room and not self._goes_on(log, writer, now) and has_ended:
-                        return await self._ends(writer, leaves)
+                        return await self._finish(writer, leaves)
                     if log.is_overtaken():
                         raise EOFError('it is too far behind')
                     await asyncio.wait([leaves], timeout=TICK)
@@ -206,14 +206,14 @@ class FeedServer:
             self._due = now + PULSE
         return bool(news)
 
-    async def _ends(self, writer: asyncio.StreamWriter, leaves: asyncio.Future[Any]) -> None:
+    async def _finish(self, writer: asyncio.StreamWriter, leaves: asyncio.Future[Any]) -> None:
         """The program has ended, and all of its log is sent."""
         writer.write(PIECE.pack(time.monotonic(), YOURS if self.hands_over else END))
         if self.hands_over:
-            return await self._handed(leaves)
+            return await self._wait_for_takeover(leaves)
         await asyncio.wait([leaves], timeout=PATIENCE)
 
-    async def _handed(self, leaves: asyncio.Future[Any]) -> None:
+    async def _wait_for_takeover(self, leaves: asyncio.Future[Any]) -> None:
         """Until the standby carries the trunk, or has left, or is silent: it says each moment that it is about to."""
         left, said = ANSWERS, self._said
         while left and not (self.is_carried or leaves.done()):
@@ -222,7 +222,7 @@ class FeedServer:
         if self._writer and not self.is_carried:
             self._writer.write(PIECE.pack(0.0, BACK))
 
-    async def _hear(self, reader: asyncio.StreamReader) -> None:
+    async def _read_standby(self, reader: asyncio.StreamReader) -> None:
         """What the standby says, until it leaves. It begins when it was told to, so not if that is too late."""
         goes = False
         with suppress(OSError, EOFError):

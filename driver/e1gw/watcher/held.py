@@ -22,7 +22,7 @@ from ..memory import in_memory
 from ..satop_numbers import number_of_now
 from .card import CardWatch
 from .connection import connected
-from .door import asked
+from .door import ask
 from .blocks import KeptBlocks
 from .reader import MOST_FOUND, LogReader
 from .replay import ReplayVersion
@@ -110,7 +110,8 @@ class HeldTrunk(WatchedTrunk):
         self._octets = b''                      # of the file that says so
         self._session, self._begun = (note.session, note.begun) if note else ('', 0)
         self._log_losses = note.log_losses if note else 0
-        self._line, self._card = self._said(note.line if note else None), CardWatch(tell, note.alarms if note else 0)
+        self._line = self._said_line(note.line if note else None)
+        self._card = CardWatch(tell, note.alarms if note else 0)
         self._blocks = KeptBlocks(f'{state.state}.blocked' if state.state else os.path.join(places.folder, 'blocked'))
         self._pid = note.logged if note else 0  # of the program that had the log at the last state
         self._begins = list[int]()              # octets at states with which it may have begun
@@ -121,13 +122,13 @@ class HeldTrunk(WatchedTrunk):
 
     def reads(self, reader: LogReader) -> None:
         """This is what reads its log."""
-        self._reader, reader.turned = reader, self._turned
+        self._reader, reader.turned = reader, self._on_log_turn
 
     def stands_with(self, pair: TrunkPair) -> None:
         """Two machines have it."""
         self.pair = pair
 
-    def _said(self, note: LineNote | None) -> SaidLine:
+    def _said_line(self, note: LineNote | None) -> SaidLine:
         """What is said of the line that the holder has now."""
         return SaidLine(self._places.said, self._places.satop, self.state.words, note, self._tell)
 
@@ -149,7 +150,7 @@ class HeldTrunk(WatchedTrunk):
             self.state, self._octets = state_in(octets), octets
             if self.state.words != words:
                 self._line.close()
-                self._line = self._said(self._line.noted())
+                self._line = self._said_line(self._line.noted())
         state = self.state
         if state.program == self._lost and state.octets_lost:
             self._reader.has_lost(self._begins[0] if self._begins else self._begun)
@@ -159,10 +160,10 @@ class HeldTrunk(WatchedTrunk):
             for event in events_of(before, state, self._line.status()):
                 self._log_losses += isinstance(event, LogLost)
                 if isinstance(event, TrunkLost):
-                    self._line.ended()
+                    self._line.on_close()
                 self._tell(event)
 
-    def _turned(self) -> None:
+    def _on_log_turn(self) -> None:
         """A state was read in the log. The first one of another program is that with which it has begun."""
         reader, pid = self._reader, logged_by(self._places.log)
         if pid and pid != self._pid:
@@ -257,20 +258,20 @@ class HeldTrunk(WatchedTrunk):
             raise FileNotFoundError(errno.ENOENT, os.strerror(errno.ENOENT))
         return f'{pid}.{started}'
 
-    def begun(self) -> int:
+    def start_octet(self) -> int:
         return self._begun
 
     def noted(self) -> HeldNote:
         return HeldNote(self._told, self._session, self._begun, self._pid, self._config, self._line.noted(),
-                        self._card.told, self._log_losses)
+                        self._card.as_told, self._log_losses)
 
     # ---- what is asked ----
 
-    async def ends(self) -> CommandAnswer:
-        return await asked(self._places.hold, 'quit')
+    async def is_ending(self) -> CommandAnswer:
+        return await ask(self._places.hold, 'quit')
 
     async def reload(self, *how: str) -> CommandAnswer:
-        return await asked(self._places.hold, ' '.join(['reload', *how]))
+        return await ask(self._places.hold, ' '.join(['reload', *how]))
 
     async def change_role(self, word: str) -> CommandAnswer:
         return await self.pair.change(word) if self.pair else refused('there is no other machine (--feed, --fed-from)')

@@ -24,7 +24,7 @@ class IdleReloadWatch:
         """To be called now and then."""
         states = [self._state.lines[n].state for n in self.waiting()]
         if self._state.live and self._reloads.is_due(now, states):
-            self._reloads = self._reloads.asked()
+            self._reloads = self._reloads.is_requested()
             self._tasks.begin(self._reload())
 
     async def _reload(self) -> None:

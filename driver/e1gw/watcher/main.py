@@ -21,7 +21,7 @@ from typing import NoReturn
 from e1gw_common.faults import Parser, options_words, words_of_fault
 from e1gw_common.notifier import Notifier
 from e1gw_common.programs import program_of
-from e1gw_common.tasks import either, every, goes_on
+from e1gw_common.tasks import wait_any, run_periodically, reporting_failures
 from e1gw_common.unix_listener import CannotListen
 from e1gw_common.writers import hold_descriptors
 from ..clearing import on_loss_of
@@ -100,7 +100,7 @@ class Watcher:
         reader.take_up(note.read if note else ReadingNote(), note.recording if note else None)
         watch.status.changed = self.note
         reader.found, reader.told = watch.flowed, lambda: watch.status.lines.place
-        reader.took, reader.missed = watch.counts.take_records, watch.counts.missed
+        reader.took, reader.missed = watch.counts.take_records, watch.counts.skip
         if pair := open_pair(asked, trunk, watch.tell):
             trunk.stands_with(pair)
         return True
@@ -129,10 +129,10 @@ class Watcher:
     def note(self) -> None:
         """Notes what the next watcher goes on with."""
         watch, reader = self._watch, self._reader
-        with goes_on('the note for the next watcher'):
+        with reporting_failures('the note for the next watcher'):
             blocks = {n: each.name for n, each in watch.blocks.kept.now.circuits.items()}
-            text = WatchNote(self._trunk.noted(), reader.noted(), watch.status.told(), watch.shown(), blocks,
-                             watch.codecs.given, reader.recording_note(), watch.status.calls_note()).text()
+            text = WatchNote(self._trunk.noted(), reader.noted(), watch.status.counts_told(), watch.page_notes(),
+                             blocks, watch.codecs.given, reader.recording_note(), watch.status.calls_note()).text()
             try:
                 self._notes.put(text)
             except FileNotFoundError:           # (the trunk has ended, or its folder is made again)
@@ -161,12 +161,13 @@ class Watcher:
     async def run(self) -> None:
         """Until the end."""
         await self._watch.open()
-        with every(LOOK, self.look, 'the look at the holder'), every(NOTED, self.note, 'the note'):
+        with run_periodically(LOOK, self.look, 'the look at the holder'), \
+                run_periodically(NOTED, self.note, 'the note'):
             works = [asyncio.create_task(work) for work in (self._reader.run(), self._watch.run())]
             await self._ending.wait()
         self._is_over = self._is_over or is_over(self._places)
         if not self._is_over:
-            self._watch.goes_on()
+            self._watch.on_trunk_restart()
         for each in works:
             each.cancel()
         await asyncio.wait(works, timeout=GRACE)
@@ -193,9 +194,10 @@ async def watch_trunk(asked: argparse.Namespace) -> int:
         """That which has started this one may end: the next one starts another."""
         if holder and os.getppid() != holder:
             ending.set()
-    with every(LOOK, lambda: notifier.tell('WATCHDOG=1'), 'the sign of life'), every(LOOK, look_at_holder, 'the look'):
+    with run_periodically(LOOK, lambda: notifier.tell('WATCHDOG=1'), 'the sign of life'), \
+            run_periodically(LOOK, look_at_holder, 'the look'):
         while not (lock.take() or ending.is_set()):
-            await either(LOOK, ending)
+            await wait_any(LOOK, ending)
         watcher = Watcher(asked, places, lock, ending)
         if await watcher.begin():
             notifier.tell('READY=1')

@@ -31,7 +31,7 @@ class MissedReports:
     last: int
     text: bytes
 
-    def reaches(self) -> bool:
+    def is_complete(self) -> bool:
         """Whether they have all that was missed."""
         return self.first <= self.since
 
@@ -39,7 +39,7 @@ class MissedReports:
         """Each octet in them, and where in the text that is."""
         return [(self.first + int(at[1]), at.start()) for at in re.finditer(rb'^at (\d+)$', self.text, re.M)]
 
-    def parts(self, last: int) -> tuple[bytes, bytes, bytes]:
+    def messages_for(self, last: int) -> tuple[bytes, bytes, bytes]:
         """What a client is told that connects where something was missed: up to the alarms, then of the circuits, and
         what changes up to this octet."""
         ats = self._ats()           # (the first one is behind a record)
@@ -55,7 +55,7 @@ class MissedReports:
         return b'\n'.join([*head, b'']), b''.join(state.values()), b'now\n' + self.text[at:max(at, end)]
 
 
-async def told_again(version: ReplayVersion, pairs: list[LogPair], folder: str) -> bytes:
+async def replay_reports(version: ReplayVersion, pairs: list[LogPair], folder: str) -> bytes:
     """What a replay of pairs, one behind the other, tells from the first state on. OSError if it does not."""
     gives, given = os.pipe()
     state, nothing = os.memfd_create('e1gw'), os.open(os.devnull, os.O_WRONLY)
@@ -66,9 +66,9 @@ async def told_again(version: ReplayVersion, pairs: list[LogPair], folder: str) 
             process = await version.start(['replay', '--load', f'/dev/fd/{state}', '--tell', path], [state], gives,
                                           nothing)
             try:
-                line = await connects(path, process)
+                line = await connect_to(path, process)
                 with line:
-                    return await asyncio.to_thread(passed, line, given, b''.join(pair.records for pair in pairs))
+                    return await asyncio.to_thread(pass_octets, line, given, b''.join(pair.records for pair in pairs))
             finally:
                 await kill_process(process)
         finally:
@@ -76,7 +76,7 @@ async def told_again(version: ReplayVersion, pairs: list[LogPair], folder: str) 
                 os.close(file)
 
 
-async def connects(path: str, process: Process) -> socket.socket:
+async def connect_to(path: str, process: Process) -> socket.socket:
     """A connection to a process that begins. OSError if it ends before, or its folder is removed."""
     until = time.monotonic() + PATIENCE
     while True:
@@ -89,7 +89,7 @@ async def connects(path: str, process: Process) -> socket.socket:
             await asyncio.sleep(SOON)
 
 
-def passed(line: socket.socket, given: int, octets: bytes) -> bytes:
+def pass_octets(line: socket.socket, given: int, octets: bytes) -> bytes:
     """Writes octets to a replay, and reads all its reports."""
     told, waits = b'', memoryview(octets)
     os.set_blocking(given, False)

@@ -30,10 +30,10 @@ class OpenLog:
         self.folder = folder or self.folder
         if not self.files:
             with suppress(OSError):
-                self.goes_on(LogFiles(self.folder))
+                self.continue_with(LogFiles(self.folder))
         return bool(self.files and self.files.are_in(self.folder))
 
-    def goes_on(self, files: LogFiles) -> None:
+    def continue_with(self, files: LogFiles) -> None:
         """These are read from now on, from the same place."""
         self.close()
         self.files, self.reader = files, FolderReader(files, self.place)
@@ -49,17 +49,17 @@ class OpenLog:
             with suppress(OSError):
                 files = LogFiles(self.folder)
                 read()
-                self.goes_on(files)
+                self.continue_with(files)
 
     # ---- what it has ----
 
-    def news(self, written: float) -> tuple[list[LogNews], float]:
+    def read_news(self, written: float) -> tuple[list[LogNews], float]:
         """What is new, and when that was written; nothing was `written` since."""
         def reads(files: LogFiles) -> tuple[list[LogNews], float]:
             assert self.reader
             its = self.reader.look()
             return its, files.written(self.reader.number) if its else written
-        return self._safely(reads, (list[LogNews](), written))
+        return self._or_default(reads, (list[LogNews](), written))
 
     def last(self) -> LogPair | None:
         """What it has, also if it was taken away."""
@@ -68,22 +68,26 @@ class OpenLog:
     def states(self) -> list[LogState]:
         """Those that it has now."""
         none = list[LogState]()
-        return self._safely(lambda files: [*filter(None, map(files.state, (0, 1)))], none) if self.is_there() else none
+        if not self.is_there():
+            return none
+        return self._or_default(lambda files: [*filter(None, map(files.state, (0, 1)))], none)
 
     def pairs(self) -> list[LogPair]:
         """What it has now, the older one first."""
         none = list[LogPair]()
-        its = self._safely(lambda files: [*filter(None, map(files.pair, (0, 1)))], none) if self.is_there() else none
+        if not self.is_there():
+            return none
+        its = self._or_default(lambda files: [*filter(None, map(files.pair, (0, 1)))], none)
         return sorted(its, key=lambda pair: pair.turn)
 
     def state_written(self) -> float:
         """When the newest state was written."""
         with suppress(OSError):
             if self.files and self.reader:
-                return self.files.begun(self.reader.number)
+                return self.files.written_at(self.reader.number)
         return time.time()
 
-    def _safely(self, reads: Callable[[LogFiles], T], nothing: T) -> T:
+    def _or_default(self, reads: Callable[[LogFiles], T], nothing: T) -> T:
         """What is read of it, which is nothing if that fails."""
         assert self.files
         try:
@@ -102,6 +106,6 @@ class OpenLog:
             logger.error('the log cannot be read: %s; it is tried again', why)
         self._why = why
         with suppress(OSError):
-            self.goes_on(LogFiles(self.folder))
+            self.continue_with(LogFiles(self.folder))
         if self.files:
             self.reader = FolderReader(self.files, self.place)

@@ -11,12 +11,12 @@ from dataclasses import replace
 
 from e1gw_common.answers import CommandAnswer, refused
 from e1gw_common.faults import words_of_fault
-from e1gw_common.tasks import Tasks, goes_on
+from e1gw_common.tasks import Tasks, reporting_failures
 from e1gw_common.tls import context_of
 from ..events import Tell
 from ..holder_state import start_of
 from ..log_folder import LogPair
-from .door import asked
+from .door import ask
 from .feed import FRESH, FeedServer
 from .held import HeldTrunk
 from .journal import NOTICE
@@ -41,9 +41,9 @@ class TrunkPair:
         self._follows: asyncio.Task[None] | None = None         # by which it is fed
         self._change: asyncio.Task[CommandAnswer] | None = None           # what was asked for last
         self._word, self._has_carried, self._tasks = '', False, Tasks()
-        standby.is_handed, standby.carries, standby.blocks = self._is_handed, self._carries, self._blocked
+        standby.is_handed, standby.carries, standby.blocks = self._is_handed, self._is_active, self._blocked
 
-    def begins(self, host: str, port: int) -> None:
+    def start(self, host: str, port: int) -> None:
         """Begins to feed, and to follow the holder."""
         self._tasks.begin(self._listen(host, port))
         self.look()
@@ -53,7 +53,7 @@ class TrunkPair:
         said = ''
         while True:
             try:
-                await asyncio.start_server(self._feed.came, host, port)
+                await asyncio.start_server(self._feed.on_connect, host, port)
                 return
             except OSError as fault:
                 if (why := words_of_fault(fault, f'--feed {host}:{port}')) != said:
@@ -72,8 +72,8 @@ class TrunkPair:
         if not self._trunk.stands_by():
             if self._follows:
                 self._is_taken()
-            self._has_carried |= self._carries()
-        elif self._stands() and not self._follows:
+            self._has_carried |= self._is_active()
+        elif self._is_standby() and not self._follows:
             self._knows_own()
             self._follows = asyncio.create_task(self._standby.run())
 
@@ -83,7 +83,7 @@ class TrunkPair:
         self._follows.cancel()
         self._follows, fed = None, self._standby.fed
         self._reads_on(fed)
-        self._standby.knows(None)
+        self._standby.publish(None)
 
     def _reads_on(self, fed: FedLog | None) -> None:
         """The next program begins with this log, or nobody knows with which."""
@@ -98,11 +98,11 @@ class TrunkPair:
         reader, has_carried, self._has_carried = self._trunk.reader, self._has_carried, False
         reader.read()
         reader.rests = True
-        with goes_on('what is known of the trunk'):
+        with reporting_failures('what is known of the trunk'):
             if has_carried and (last := reader.last()):
-                self._standby.knows(self._own(last))
+                self._standby.publish(self._own_state(last))
 
-    def _own(self, last: LogPair) -> FedLog:
+    def _own_state(self, last: LogPair) -> FedLog:
         reader = self._trunk.reader
         own = FedLog(self._trunk.places().folder, last.place, reader.octets_at(last), self._trunk.numbers())
         own.begin(last.state, last.records)
@@ -112,7 +112,7 @@ class TrunkPair:
     # ---- what is asked ----
 
     def _lacks_program(self) -> bool:
-        return not (self._trunk.stands_by() or self._carries())
+        return not (self._trunk.stands_by() or self._is_active())
 
     def role(self) -> str:
         """The role of this machine, and whether the standby is fed."""
@@ -122,56 +122,56 @@ class TrunkPair:
     async def change(self, word: str) -> CommandAnswer:
         """The answer to `promote`, `demote` or `move`."""
         if word == 'move' and (self._trunk.stands_by() or self._lacks_program() or not self.facts().fed
-                               or not await self._feed.answers()):
+                               or not await self._feed.is_up_to_date()):
             return refused('no standby is fed here')
-        change = self._begins(word)
+        change = self._start_change(word)
         await asyncio.wait([change])
         return refused(REVERSE) if change.cancelled() else change.result()
 
-    def _begins(self, word: str) -> asyncio.Task[CommandAnswer]:
+    def _start_change(self, word: str) -> asyncio.Task[CommandAnswer]:
         """One change at a time: another one ends that which goes on, the same one is that."""
         change = self._change
         if not change or change.done() or self._word != word:
             if change:
                 change.cancel()
-            self._word, self._change = word, (change := asyncio.create_task(self._does(word)))
+            self._word, self._change = word, (change := asyncio.create_task(self._run_change(word)))
         return change
 
-    async def _does(self, word: str) -> CommandAnswer:
+    async def _run_change(self, word: str) -> CommandAnswer:
         try:
-            answer = await {'promote': self._take, 'demote': self._release, 'move': self._move}[word]()
+            answer = await {'promote': self._take_trunk, 'demote': self._release, 'move': self._move_trunk}[word]()
         except Exception as fault:      # pylint: disable=broad-exception-caught
             logger.error('%s: %s', word, words_of_fault(fault))
             answer = refused(words_of_fault(fault))
-        with goes_on('the role of the trunk'):
+        with reporting_failures('the role of the trunk'):
             self._follow_role()
         return answer
 
-    async def _take(self) -> CommandAnswer:
+    async def _take_trunk(self) -> CommandAnswer:
         """The trunk is to come here, with what is known of it up to now."""
         trunk, standby, words = self._trunk, self._standby, 'take'
         if follows := self._follows:
             follows.cancel()
             await asyncio.wait([follows])
         self._follows = None
-        if self._stands():                  # (else what it has is there)
+        if self._is_standby():                  # (else what it has is there)
             told = await standby.fill()
-            if standby.fed and (number := standby.fed.number()) is not None:
+            if standby.fed and (number := standby.fed.next_packet_number()) is not None:
                 words, told = f'take {number}', f'{told}, packet {number} next'
             logger.log(NOTICE, 'the trunk is taken: %s', told)
             self._reads_on(standby.fed)
-        answer = await self._says(words)
+        answer = await self._ask_holder(words)
         if not trunk.stands_by():
-            standby.knows(None)
+            standby.publish(None)
         return answer
 
     async def _release(self) -> CommandAnswer:
         """It is to go, and the other machine has all of it."""
-        answer = await self._says('release')
+        answer = await self._ask_holder('release')
         await self._feed.finish(GRACE)
         return answer
 
-    async def _move(self) -> CommandAnswer:
+    async def _move_trunk(self) -> CommandAnswer:
         """The same, and the feed says that the other one is to carry it. If it does not this one takes it back."""
         self._feed.hands_over, self._feed.is_carried = True, False
         try:
@@ -180,20 +180,20 @@ class TrunkPair:
                 return answer
             logger.error('move: %s', NOT_TAKEN)
             self._knows_own()
-            answer = await self._take()
+            answer = await self._take_trunk()
             return refused(NOT_TAKEN) if answer.is_done else answer
         finally:
             self._feed.hands_over = False
 
-    async def _says(self, words: str) -> CommandAnswer:
+    async def _ask_holder(self, words: str) -> CommandAnswer:
         """What the holder answers."""
-        answer = await asked(self._trunk.places().hold, words, PATIENCE)
+        answer = await ask(self._trunk.places().hold, words, PATIENCE)
         self._trunk.look()
         return answer
 
     def _is_handed(self, takes: bool) -> None:
         """The other machine hands it over, or takes it back."""
-        self._begins('promote' if takes else 'demote')
+        self._start_change('promote' if takes else 'demote')
 
     # ---- what is known ----
 
@@ -203,7 +203,7 @@ class TrunkPair:
 
     def facts(self) -> PairFacts:
         """Role and feed."""
-        standby, stands = self._standby, self._stands()
+        standby, stands = self._standby, self._is_standby()
         age = standby.age() if stands else self._feed.age()
         its = PairFacts(stands, age is not None and age <= FRESH, age and round(age, 3))
         return replace(its, feed_fault=standby.why or None,
@@ -212,13 +212,13 @@ class TrunkPair:
     def _blocked(self, circuits: list[int]) -> None:
         """The operator has blocked these at the other machine."""
         kept = self._trunk.blocks()
-        self._tasks.begin(kept.put(kept.now.only(circuits)))
+        self._tasks.begin(kept.put(kept.now.replace_all(circuits)))
 
-    def _stands(self) -> bool:
+    def _is_standby(self) -> bool:
         """Whether it stands by: it is active until its program has ended."""
         return self._trunk.stands_by() and not self._trunk.state.program
 
-    def _carries(self) -> bool:
+    def _is_active(self) -> bool:
         state, program = self._trunk.state, self._trunk.carried_by()
         return bool(program and start_of(program) == state.started)
 
@@ -235,5 +235,5 @@ def open_pair(asked: argparse.Namespace, trunk: HeldTrunk, tell: Tell) -> TrunkP
     files = asked.tls or ()
     feed = FeedServer(other[0], trunk, context_of(files, True))
     pair = TrunkPair(trunk, TrunkStandby(other, host, files, trunk, tell), feed)
-    pair.begins(host, port)
+    pair.start(host, port)
     return pair

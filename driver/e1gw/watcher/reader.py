@@ -11,7 +11,7 @@ from typing import Callable, Sequence
 
 from e1gw_common.faults import words_of_fault
 from e1gw_common.session import OCTETS_A_SECOND, whole_records
-from e1gw_common.tasks import every, goes_on
+from e1gw_common.tasks import run_periodically, reporting_failures
 from ..clock import TICK, Clock, ClockFinding
 from .journal import NOTICE
 from ..log_folder import LogBegun, LogFiles, LogNews, LogPair, LogPiece, LogState
@@ -82,7 +82,7 @@ class LogReader:
         self.first, self.starts = read.first, read.starts
         self.clock.gaps, self.clock.lost_seconds = read.gaps, read.lost_seconds
         if files:
-            self.log.goes_on(files)
+            self.log.continue_with(files)
         self._found = self.log.pairs()
         if not (wants := self._wants):
             return
@@ -124,7 +124,7 @@ class LogReader:
 
     def take_out(self) -> LogPair | None:
         """The same, and gives the room of its files back. What is read next is in other files."""
-        with goes_on('the reading of the log'):
+        with reporting_failures('the reading of the log'):
             self.read()
         last = self.last()
         self.log.close()
@@ -156,7 +156,7 @@ class LogReader:
         self._found = [*self._found, *self.log.pairs()[:-1]][-MOST_FOUND:]
         self.starts = (*self.starts, (self.octets, time.time()))[-MOST_FOUND:]
         if self._recording and self.log.reader:
-            await self._recording.has(self.log.reader.base, MOST_WAIT)
+            await self._recording.wait_until_written(self.log.reader.base, MOST_WAIT)
 
     def count_on(self, missed: int | None = None) -> None:
         """So many octets of the trunk were not counted, or as many as its time had, if nobody can say it any more."""
@@ -187,8 +187,8 @@ class LogReader:
 
     async def run(self) -> None:
         """Until it is cancelled. Whatever fails is begun again."""
-        with every(TICK, self.look, 'the reading of the log'):
-            await self._begin_again()
+        with run_periodically(TICK, self.look, 'the reading of the log'):
+            await self._retry_recording()
 
     def look(self) -> None:
         """To be called each TICK, and by nobody else: reads what there is, and looks at the flow. (A look between two
@@ -204,17 +204,17 @@ class LogReader:
         """Reads what there is; whether there is a log of this machine."""
         if self.rests or not (self.log.reader or self.has_log() and self.log.reader):
             return False
-        before, (its, written) = self.octets, self.log.news(self._written)
+        before, (its, written) = self.octets, self.log.read_news(self._written)
         for number, news in enumerate(its, 1):
-            self._take(news, its[number:], written)
+            self._take_news(news, its[number:], written)
         self._written = written
         if self.octets > before:
-            self.clock.took(self.octets - before, time.monotonic())
+            self.clock.add_octets(self.octets - before, time.monotonic())
         if any(isinstance(news, LogBegun) for news in its):
-            self.clock.missed()
+            self.clock.restart()
         return True
 
-    def _take(self, news: LogNews, behind: Sequence[LogNews], written: float) -> None:
+    def _take_news(self, news: LogNews, behind: Sequence[LogNews], written: float) -> None:
         if isinstance(news, LogPiece):
             self.octets += whole_records(news.octets)[1]
             self.took(news.octets)
@@ -260,7 +260,7 @@ class LogReader:
 
     # ---- a ring that has ended ----
 
-    async def _begin_again(self) -> None:
+    async def _retry_recording(self) -> None:
         """A ring that has ended is tried once a minute. If it can be written it goes on from the next state."""
         while True:
             await asyncio.sleep(AGAIN)

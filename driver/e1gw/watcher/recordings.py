@@ -126,7 +126,7 @@ class TrunkRecording:
         self._wakes.set()
         self._thread.join(FLUSH)
 
-    async def has(self, place: int, seconds: float) -> None:
+    async def wait_until_written(self, place: int, seconds: float) -> None:
         """Waits until all up to this place of the log is written, so long at most."""
         until = time.monotonic() + seconds
         while self._written[0] < place and not self.why and time.monotonic() < until:
@@ -199,7 +199,7 @@ class TrunkRecording:
         if self._file >= 0:
             return
         if self.ring:
-            self.ring.goes_on(self._path)
+            self.ring.continue_file(self._path)
         if size_of(path) > self._written[2]:
             os.truncate(path, self._written[2])
         self._file = open_to_append(path)

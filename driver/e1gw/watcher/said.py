@@ -34,14 +34,14 @@ class SaidFile:
     def __init__(self, path: str, note: SaidNote) -> None:
         self.path, self.note, self._file = path, note, -1
 
-    def news(self) -> Iterator[str | None]:
+    def read_lines(self) -> Iterator[str | None]:
         """The whole lines that were said since; None where another process begins."""
         yield from self._lines()
         with suppress(FileNotFoundError):
             if os.stat(self.path).st_ino != self.note.inode or self._file < 0:
-                yield from self._follow(os.open(self.path, os.O_RDONLY | os.O_CLOEXEC))
+                yield from self._switch_to(os.open(self.path, os.O_RDONLY | os.O_CLOEXEC))
 
-    def _follow(self, file: int) -> Iterator[str | None]:
+    def _switch_to(self, file: int) -> Iterator[str | None]:
         """Another file, or that of a watcher before this one."""
         self.close()
         self._file, inode = file, os.fstat(file).st_ino
@@ -94,20 +94,20 @@ class SaidLine:
 
     def look(self) -> None:
         """Takes what was said since."""
-        for line in self._program.news():
+        for line in self._program.read_lines():
             if line is not None:
-                self._take(line)
+                self._take_line(line)
             elif self.crc4:
                 self.crc4.follows()
             elif self.slots:
                 self.slots.follows()
-        for line in self._satop.news():
+        for line in self._satop.read_lines():
             if counts := counts_of(line or ''):
                 self._take_counts(counts)
             elif line is None:
                 self._seen = self._seen._replace(counts={})
 
-    def _take(self, line: str) -> None:
+    def _take_line(self, line: str) -> None:
         counts = counts_in(line) if self.crc4 else {}
         events: Sequence[Event] = self.slots.take(line) if self.slots and not counts else ()
         if self.crc4 and counts:
@@ -120,7 +120,7 @@ class SaidLine:
 
     def _take_counts(self, counts: dict[str, int]) -> None:
         """What `e1gw satop` has counted."""
-        before, self._seen = self._seen, self._seen.then(counts, self._unheard())
+        before, self._seen = self._seen, self._seen.updated(counts, self._unheard())
         for each in (*before.holding, *self._seen.holding):
             if (each in before.holding) is not (on := each in self._seen.holding):
                 self._tell(SatopChanged(each.words, on))
@@ -130,10 +130,10 @@ class SaidLine:
         _, far, *_ = begun_in(self._satop.path).get('words') or ('', '')
         return unheard() if far and not is_here(far) else 0
 
-    def ended(self) -> None:
+    def on_close(self) -> None:
         """The line was closed."""
         if self.crc4:
-            self.crc4.ended()
+            self.crc4.reset()
 
     def status(self) -> dict[str, Any]:
         """What the transport tells of itself, as plain values."""

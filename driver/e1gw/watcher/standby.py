@@ -62,20 +62,20 @@ class FedLog:
     def begin(self, state: bytes, records: bytes = b'') -> None:
         """A state behind all that was taken, and records behind that."""
         self._writer.begin(self.place, state, records)
-        self._count(records)
+        self._count_octets(records)
 
     def take(self, piece: bytes) -> None:
         """A piece of the log. NoRoom if it has too many records behind a state."""
         octets = self._cut + piece
         whole = whole_records(octets)[0]
         self._cut = octets[whole:]
-        self._put(octets[:whole])
+        self._append(octets[:whole])
 
-    def _put(self, records: bytes) -> None:
+    def _append(self, records: bytes) -> None:
         self._writer.append(records)
-        self._count(records)
+        self._count_octets(records)
 
-    def _count(self, records: bytes) -> None:
+    def _count_octets(self, records: bytes) -> None:
         trunk = whole_records(records)[1]
         self.place, self.octets = self.place + len(records), self.octets + trunk
         self._has_trunk |= trunk > 0
@@ -93,7 +93,7 @@ class FedLog:
             self._began = min(self.fresh - came, self._began + drift)
             self.came, self._has_trunk = min(self.fresh, max(before, self._began + came)), False
 
-    def ones(self) -> int:
+    def missing_octets(self) -> int:
         """How many octets of ones stand for the time since octets came, as if the trunk had given them: timers,
         timestamps and jitter buffers go on."""
         count = round(min(time.monotonic() - self.came, MOST_AGE) * OCTETS_A_SECOND / MULTIFRAME)
@@ -102,18 +102,18 @@ class FedLog:
 
     async def fill(self, version: ReplayVersion) -> int:
         """Puts them into the log. Returns how many. OSError if there is no room for them."""
-        count = self.ones()
+        count = self.missing_octets()
         left = count // MULTIFRAME
         while left:
             many = min(left, MANY)
             try:
-                self._put(ONES * many)
+                self._append(ONES * many)
                 left -= many
             except NoRoom:
-                await self._shorten(version)
+                await self._checkpoint(version)
         return count
 
-    async def _shorten(self, version: ReplayVersion) -> None:
+    async def _checkpoint(self, version: ReplayVersion) -> None:
         """Another state, behind all records."""
         saved = os.path.join(self.folder, 'saved')
         status, said, _ = await version.run(['replay', '--save', saved], self.last())
@@ -128,12 +128,12 @@ class FedLog:
         with closing(LogFiles(self.folder)) as files:
             return files.last()
 
-    def number(self) -> int | None:
+    def next_packet_number(self) -> int | None:
         """That of the next packet, of a trunk that has packets."""
         zero, size = self.numbers
         return zero + self.octets // size & 0xffff if size else None
 
-    def goes_to(self, folder: str) -> None:
+    def move_to(self, folder: str) -> None:
         """It is in this folder from now on, in place of what that has."""
         aside = tempfile.mkdtemp(prefix=FED, dir=os.path.dirname(folder))
         with suppress(FileNotFoundError):
@@ -186,7 +186,7 @@ class TrunkStandby:
         """Until it is cancelled. Whatever fails is begun again; why is reported once, however often it is tried."""
         while True:
             try:
-                await self._follow()
+                await self._receive_feed()
             except Exception as fault:      # pylint: disable=broad-exception-caught
                 before, self.why = self.why, 'the feed has ended' if isinstance(fault, EOFError) else \
                     words_of_fault(fault) or f'nothing comes for {PATIENCE:g} s'
@@ -195,7 +195,7 @@ class TrunkStandby:
             await asyncio.sleep(self._wait)
             self._wait = min(MOST_AGAIN, 2 * self._wait)
 
-    async def _follow(self) -> None:
+    async def _receive_feed(self) -> None:
         """Takes a state, and what is logged behind it, to the end. FeedRefused if it is no feed of this trunk."""
         try:
             async with asyncio.timeout(PATIENCE):
@@ -206,36 +206,36 @@ class TrunkStandby:
         fed = None
         try:
             async with asyncio.timeout(PATIENCE):
-                fed = await self._first(reader)
-            await self._take(fed, reader, writer)
+                fed = await self._receive_start(reader)
+            await self._receive_pieces(fed, reader, writer)
         finally:
             if not (self._taking and not self._taking.done()):      # (which closes it)
                 writer.close()
             if fed and fed is not self.fed:
                 fed.close()
 
-    async def _first(self, reader: asyncio.StreamReader) -> FedLog:
+    async def _receive_start(self, reader: asyncio.StreamReader) -> FedLog:
         """The head, and the state."""
         if not (line := await reader.readline()):       # (TLS shows this machine's certificate last)
             raise FeedRefused(NO_CERTIFICATE if self._tls else NO_TRUNK)
         if line == NOTHING:
             raise FeedRefused(NO_TRUNK)
         head = head_of(line)
-        circuits = self._differs(head)
+        circuits = self._changed_circuits(head)
         state = await reader.readexactly(head.state)
         fed = FedLog(self._folder, head.place, head.octets, (head.zero, head.size), head.program)
         fed.begin(state)
         fed.circuits = circuits
         return fed
 
-    def _differs(self, head: FeedHead) -> list[int]:
+    def _changed_circuits(self, head: FeedHead) -> list[int]:
         """The circuits that are configured otherwise there. FeedRefused if the law is another one."""
         law, circuits = configured(self._trunk.config_path())
         if law != head.law:
             raise FeedRefused(f'its law is {head.law[:20]}, and here it is {law}')
         return [n for n in CIRCUITS if circuits.get(str(n)) != head.circuits.get(str(n))]
 
-    async def _take(self, fed: FedLog, reader: asyncio.StreamReader, writer: asyncio.StreamWriter) -> None:
+    async def _receive_pieces(self, fed: FedLog, reader: asyncio.StreamReader, writer: asyncio.StreamWriter) -> None:
         """Takes pieces of the log, to its end, and says now and then up to when it has all."""
         said = 0.0
         while True:
@@ -244,7 +244,7 @@ class TrunkStandby:
                 if length > MOST_PIECE or not math.isfinite(at):
                     raise FeedRefused('a piece of the feed is too long, or has no time')
                 if length == STATE:
-                    fed.begin(await self._state(reader))
+                    fed.begin(await self._receive_state(reader))
                     continue
                 if length == BLOCKS:
                     bits, = LENGTH.unpack(await reader.readexactly(LENGTH.size))
@@ -254,7 +254,7 @@ class TrunkStandby:
             if at:
                 fed.is_all(at)
                 if fed is not self.fed:
-                    self._begins(fed)
+                    self._replace_known(fed)
             if length == YOURS and fed is self.fed:
                 writer.write(MARK.pack(TAKES))
                 continue
@@ -267,7 +267,7 @@ class TrunkStandby:
                 writer.write(MARK.pack(at))
                 said = at
 
-    async def _state(self, reader: asyncio.StreamReader) -> bytes:
+    async def _receive_state(self, reader: asyncio.StreamReader) -> bytes:
         length, = LENGTH.unpack(await reader.readexactly(LENGTH.size))
         if length > STATE_ROOM:
             raise FeedRefused('a state of the feed is too long')
@@ -290,19 +290,19 @@ class TrunkStandby:
         last.cancel()
         writer.close()
 
-    def _begins(self, fed: FedLog) -> None:
+    def _replace_known(self, fed: FedLog) -> None:
         """A feed has given all that there is: it takes the place of what was known before."""
-        self.knows(fed)
+        self.publish(fed)
         self.why, self._wait = '', AGAIN
         if fed.circuits:
             logger.warning('the other machine has another configuration: the calls of circuits %s will not go on here',
                            ', '.join(map(str, fed.circuits)))
         self._tell(Fed(self._by, fed.pid))
 
-    def knows(self, fed: FedLog | None) -> None:
+    def publish(self, fed: FedLog | None) -> None:
         """This is what it knows from now on, and the holder finds."""
         if fed:
-            fed.goes_to(self._trunk.places().fed)
+            fed.move_to(self._trunk.places().fed)
         before, self.fed = self.fed, fed
         if before:
             before.close()
@@ -313,7 +313,7 @@ class TrunkStandby:
         if not fed:
             return 'what was fed to a watcher before' if os.path.exists(self._trunk.places().fed) else NOTHING_KNOWN
         if (age := time.monotonic() - max(fed.came, fed.fresh)) > MOST_AGE:
-            self.knows(None)
+            self.publish(None)
             return f'what is known is {age:.0f} s old'
         try:
             with self._trunk.version() as version:

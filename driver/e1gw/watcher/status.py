@@ -12,7 +12,7 @@ from typing import Any, Callable
 from e1gw_common.faults import words_of_fault
 from e1gw_common.lines import Alignment, read_config, tables_of
 from e1gw_common.session import CIRCUITS, OCTETS_A_SECOND
-from e1gw_common.tasks import beat, guarded
+from e1gw_common.tasks import next_beat, report_failure
 from ..calls import CallLog, CallsNote
 from ..counts import DatagramCounts
 from ..events import Connected, Disconnected, Flows, LineChanged, Placed, Stalled, Tell
@@ -52,8 +52,8 @@ class TrunkStatus:
                  put: Callable[[str], None]) -> None:
         self._trunk, self.tell = trunk, tell
         tables = read_config(trunk.config_path())
-        self.lines = TrunkState(tables, guarded(self._tells, WATCH), counts, time.monotonic,
-                                guarded(self._told_all, WATCH))
+        self.lines = TrunkState(tables, report_failure(self._on_event, WATCH), counts, time.monotonic,
+                                report_failure(self._told_all, WATCH))
         self.calls = CallLog(name, self.lines.lines, counts, put, self._day)
         self.is_followed: Callable[[], bool] = lambda: False
         self.start = time.monotonic()
@@ -74,7 +74,7 @@ class TrunkStatus:
         self._again = self.lines                # what tells now, and up to which octet, at which time, if it is the log
         self._until = 0, self._at
         self.waiting: Callable[[], list[str]] = list    # lines of calls that may not be written yet
-        self.lines.lost()
+        self.lines.on_disconnect()
 
     def take_up(self, note: CallsNote) -> None:
         """Goes on with the calls of the watcher before this one."""
@@ -85,17 +85,17 @@ class TrunkStatus:
     async def _catch_up(self, last: int) -> None:
         """What happened up to this octet of the trunk, and nobody told, is read in the log, as far as that reaches."""
         place, self._is_caught_up, self._until = self.lines.place, False, (last, time.time())
-        missed = await self._trunk.missed(place)
-        if not missed or missed.since > missed.last or not (self._is_known or missed.reaches()):
+        missed = await self._trunk.missed_reports(place)
+        if not missed or missed.since > missed.last or not (self._is_known or missed.is_complete()):
             return
-        if not missed.reaches():
+        if not missed.is_complete():
             logger.warning('%.1f s of the trunk are not known: their calls may have no line',
                            (missed.first - missed.since) / OCTETS_A_SECOND)
-        self._again = self.lines.told_again(missed.first, lambda: time.monotonic() - self._behind())
+        self._again = self.lines.replay_until(missed.first, lambda: time.monotonic() - self._lag())
         self.calls.counted_by(self._again.counts)
         try:
-            self._take_again(missed)
-            self._is_caught_up = missed.reaches() and missed.last >= last
+            self._replay_missed(missed)
+            self._is_caught_up = missed.is_complete() and missed.last >= last
         except BadTelling as fault:
             logger.warning('what the calls did meanwhile is not known: %s', fault)
         finally:
@@ -105,11 +105,11 @@ class TrunkStatus:
         self.naming.look(self.lines.lines)
         self._note_calls()
 
-    def _take_again(self, missed: MissedReports) -> None:
+    def _replay_missed(self, missed: MissedReports) -> None:
         """Takes what was missed. What differs where it begins was not told yet, or is of another configuration."""
-        again, (alarms, state, changes) = self._again, missed.parts(self._until[0])
+        again, (alarms, state, changes) = self._again, missed.messages_for(self._until[0])
         again.take(alarms)
-        again.known, again.live = self._is_known, self._is_known and missed.reaches() and not missed.is_new
+        again.known, again.live = self._is_known, self._is_known and missed.is_complete() and not missed.is_new
         again.take(state)
         again.counts.go_on(self.lines.counts)
         if not self._is_known:
@@ -118,22 +118,22 @@ class TrunkStatus:
         again.take(changes)
         self.lines.counts.take_causes(again.counts)
 
-    def _behind(self) -> float:
+    def _lag(self) -> float:
         """By how many seconds that is late which is told now. Octets behind the begin of the program of now came as
         they come up to now, those before that as they came behind what was told last, or the begin of another one."""
         place = self._again.place
         if self._again is self.lines:
             return 0.0
         known = [(self.lines.place, self._at), *self._trunk.starts()]
-        octet, at = self._until if place > self._trunk.begun() else max(
+        octet, at = self._until if place > self._trunk.start_octet() else max(
             (each for each in known if each[0] < place), default=known[0])
         return max(0.0, time.time() - at - (place - octet) / OCTETS_A_SECOND)
 
     def _day(self) -> float:
         """When that was which is told now."""
-        return time.time() - self._behind()
+        return time.time() - self._lag()
 
-    def _tells(self, event: Placed) -> None:
+    def _on_event(self, event: Placed) -> None:
         """The program has told a change of the lines or the alarms."""
         self.tell(event)
         if isinstance(event, LineChanged):
@@ -148,7 +148,7 @@ class TrunkStatus:
             self.changed()
         self.calls.give()
 
-    def stands(self, what: str, on: bool, why: str = '') -> None:
+    def set_connected(self, what: str, on: bool, why: str = '') -> None:
         """Whether there is a connection to one of the program's sockets. At first it may be to come."""
         self._connected[what] = on
         has = all(self._connected.values())
@@ -164,11 +164,11 @@ class TrunkStatus:
         """The connection at which changes are told; None if there is none."""
         return self._line if self.lines.live else None
 
-    def hurry(self) -> None:
+    def wake(self) -> None:
         """Reports are read at once."""
         self._read.set()
 
-    async def follow(self) -> None:
+    async def run(self) -> None:
         """Knows the state of the trunk, by each program that comes."""
         while True:
             self._why = 'it has closed the connection'
@@ -178,28 +178,28 @@ class TrunkStatus:
                 session = self._trunk.session()
                 await self._trunk.know_place()
                 line.connect(self._trunk.places().tell)
-                place = self._trunk.begun() + await place_told(line)
+                place = self._trunk.start_octet() + await place_told(line)
                 if self._trunk.session() != session:
                     raise OSError(0, 'another program carries the trunk')
-                await self.came(line, session, place)
-                while self.takes(line, 1 << 16):
-                    await self._more(line)
+                await self.on_connect(line, session, place)
+                while self.read_lines(line, 1 << 16):
+                    await self._wait_for_more(line)
                     await self._trunk.know_place(PATIENCE)
             except OSError as fault:
                 self._why = words_of_fault(fault)
             finally:
                 line.close()
-            self.left()
+            self.on_disconnect()
             await asyncio.sleep(AGAIN)
 
-    def left(self) -> None:
+    def on_disconnect(self) -> None:
         """The connection has ended."""
         self._line = None
-        self.lines.lost()
-        self.calls.left()
-        self.stands('reports', False, f'{self._trunk.places().tell}: {self._why}')
+        self.lines.on_disconnect()
+        self.calls.on_disconnect()
+        self.set_connected('reports', False, f'{self._trunk.places().tell}: {self._why}')
 
-    def takes(self, line: socket.socket, most: int) -> bool:
+    def read_lines(self, line: socket.socket, most: int) -> bool:
         """Takes what was told, at once, so that nothing behind it is taken before; whether more may follow."""
         try:
             octets, before = line.recv(most), self.lines.place
@@ -221,14 +221,14 @@ class TrunkStatus:
         self._trunk.reader.read()
         with suppress(OSError):
             if self._line:
-                self.takes(self._line, 1 << 20)
+                self.read_lines(self._line, 1 << 20)
 
-    async def _more(self, line: socket.socket) -> None:
+    async def _wait_for_more(self, line: socket.socket) -> None:
         """Waits until there is more to read, and a moment first, so that many small writes are one read."""
         # (asyncio spells what it does not find: a socket with both of its addresses, a number by itself)
         loop, file = asyncio.get_running_loop(), line.fileno()
         rest = SHORT_REST if self.is_followed() else REST
-        timer = loop.call_at(beat(rest), loop.add_reader, file, self._read.set)
+        timer = loop.call_at(next_beat(rest), loop.add_reader, file, self._read.set)
         try:
             await self._read.wait()
         finally:
@@ -236,7 +236,7 @@ class TrunkStatus:
             loop.remove_reader(file)
             self._read.clear()
 
-    async def came(self, line: socket.socket, session: str, place: int) -> None:
+    async def on_connect(self, line: socket.socket, session: str, place: int) -> None:
         """There is a connection, at which a program, whose session has this name, tells the state at an octet."""
         self._session = session
         with suppress(OSError, ValueError, KeyError, TypeError):
@@ -245,9 +245,9 @@ class TrunkStatus:
             self.calls.changed = frozenset(n for n in CIRCUITS if before.get(n) != self._tables.get(n))
         await self._catch_up(place)
         self._flow, self._line = replace(self._flow, moved=time.monotonic()), line
-        self.lines.begin(self._trunk.begun())
+        self.lines.begin(self._trunk.start_octet())
 
-    def told(self) -> ToldNote:
+    def counts_told(self) -> ToldNote:
         """What this process has told beside the calls."""
         lines, stands = self.lines, bool(self._stood if self._stands is None else self._stands)
         return ToldNote(stands, self._since, (*lines.alarms.values(), *lines.remote.values()),
@@ -267,17 +267,17 @@ class TrunkStatus:
     def _told_all(self) -> None:
         self._is_known = self._has_changed = True
         self.naming.begin(self._session, self.lines.seizures, self.lines.lines, self._is_caught_up)
-        self.stands('reports', True)
-        self.calls.begun(self.naming.life)
+        self.set_connected('reports', True)
+        self.calls.on_session_start(self.naming.life)
 
     def look_at_flow(self, now: float) -> None:
         """To be called a few times a second: whether octets of the trunk come."""
         before = self._flow
-        self._flow, change = before.seen(self.place(), now, self._line is not None)
+        self._flow, change = before.update(self.place(), now, self._line is not None)
         if change is FlowChange.FLOWS:
             self.tell(Flows(round(now - (before.stood or now), 3)))
         elif change is FlowChange.STALLED:
-            self.stands('reports', True)
+            self.set_connected('reports', True)
             self.tell(Stalled(decisions.QUIET))
 
     def place(self) -> int:

@@ -18,7 +18,7 @@ from e1gw_common.session import whole_records
 from ..holder_state import ACTIVE, STANDBY
 from .connection import connected
 from .blocks import KeptBlocks
-from .missed import MissedReports, told_again
+from .missed import MissedReports, replay_reports
 from .reader import LogReader
 from .replay import ReplayVersion
 
@@ -124,11 +124,11 @@ class WatchedTrunk(ABC):
         """Which program it is that tells. FileNotFoundError if there is none."""
 
     @abstractmethod
-    def begun(self) -> int:
+    def start_octet(self) -> int:
         """The octet of the trunk with which the program of now has begun."""
 
     @abstractmethod
-    async def ends(self) -> CommandAnswer:
+    async def is_ending(self) -> CommandAnswer:
         """The end is asked for."""
 
     @abstractmethod
@@ -162,13 +162,13 @@ class WatchedTrunk(ABC):
             async with asyncio.timeout(seconds):
                 for _ in range(ANSWERS if reader.has_missed else 0):
                     with connected(self.places().tell) as line:
-                        place = self.begun() + await place_told(line)
+                        place = self.start_octet() + await place_told(line)
                     for _ in range(2):          # (one finds nothing while a head is written)
                         reader.read()
                     missed = max(missed, place - reader.octets)
                 reader.count_on(missed)
 
-    async def missed(self, since: int) -> MissedReports | None:
+    async def missed_reports(self, since: int) -> MissedReports | None:
         """What happened behind an octet of the trunk, as far as the log of this machine and version reaches."""
         reader = self.reader
         since, is_new = max(since, reader.first), since <= reader.first
@@ -176,7 +176,7 @@ class WatchedTrunk(ABC):
             return None
         try:
             with self.version() as version:
-                text = await told_again(version, [pair for _, pair in pairs], self.places().folder)
+                text = await replay_reports(version, [pair for _, pair in pairs], self.places().folder)
         except OSError as fault:
             logger.warning('what the calls did meanwhile is not known: %s', words_of_fault(fault))
             return None

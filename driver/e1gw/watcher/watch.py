@@ -19,7 +19,7 @@ from e1gw_common.line_files import EventFile, has_line
 from e1gw_common.lines import Role, State
 from e1gw_common.report import json_line
 from e1gw_common.session import Codec, Command, codec_record, command_record
-from e1gw_common.tasks import Tasks, again, every, guarded, has_failed
+from e1gw_common.tasks import Tasks, retry, run_periodically, report_failure, has_failed
 from e1gw_common.unix_listener import CannotListen, unix_listener
 from e1gw_common.web import web_listener
 from ..calls import CallsNote
@@ -97,12 +97,12 @@ class TrunkWatch:
         self._is_over = True                    # the trunk has ended, once this one does
         self.ended: dict[str, str | None] = dict.fromkeys(BESIDE)
         self._restarts = Resyncs(self.restart, self.tell)
-        self.counts, self._deaf = DatagramCounts(guarded(self._restarts.counted, WATCH)), DeafCalls(self.tell)
+        self.counts, self._deaf = DatagramCounts(report_failure(self._restarts.counted, WATCH)), DeafCalls(self.tell)
         self.status = TrunkStatus(trunk, wants.name, self.tell, self.counts, self._put_call)
         self._lines = self.status.lines
-        self._program = ProgramConnection(lambda: trunk.places().control, self.status.stands, self.status.hurry,
+        self._program = ProgramConnection(lambda: trunk.places().control, self.status.set_connected, self.status.wake,
                                           lambda: trunk.facts().fault)
-        self._lines.commanded = guarded(self._program.told, WATCH)
+        self._lines.commanded = report_failure(self._program.on_record, WATCH)
         self._events, self._ended_calls = ReadEvents(), deque[str](maxlen=LAST)
         self.pages = TrunkPages(self._values, self.status.take_now, list(self._lines.lines.values()),
                                 PageNotes(self._events.last, self._ended_calls, wants.kept))
@@ -111,7 +111,7 @@ class TrunkWatch:
         self._reloads = IdleReloadWatch(trunk, self._lines)
         self.codecs = CodecWatch(self._lines, self.give_codec, lambda n: self.blocks.is_busy(n)
                                  or n in self._reloads.waiting(), lambda: self.status.changed())
-        self.status.is_followed = lambda: bool(self._server.followers() or self.blocks.kept.now.left())
+        self.status.is_followed = lambda: bool(self._server.followers() or self.blocks.kept.now.not_yet_blocked())
         self.status.waiting = lambda: [*islice(self._calls.waiting, NOTED)] if self._calls else []
         self.disconnects = DisconnectWatch(on_loss_of(wants.on_loss), self.clear_all)
         self._outages = OutageWatch(wants.dark, self.clear_all)
@@ -180,9 +180,9 @@ class TrunkWatch:
             if self._calls and self.wants.calls and not has_line(self.wants.calls, line):
                 self._calls.put(line)
 
-    def shown(self) -> ShownNote:
+    def page_notes(self) -> ShownNote:
         """What pages show beside the status."""
-        alarms = ((key, each.words, each.time) for key, each in self._events.standing().items())
+        alarms = ((key, each.words, each.time) for key, each in self._events.active_alarms().items())
         last = ((each.words, each.time) for each in self._events.last)
         commands = ((*words, count) for words, count in self._done.items())
         return ShownNote((*last,), (*alarms,), (*self._ended_calls,), self._deaf.causes, self._resyncs, (*commands,))
@@ -195,7 +195,7 @@ class TrunkWatch:
         self._deaf.take_up(note.deaf)
         self._resyncs = note.resyncs
         self._done.update({(command, answer): count for command, answer, count in note.commands})
-        self.trunk.reader.clock.rate.is_wrong = WrongRate.name in self._events.standing()
+        self.trunk.reader.clock.rate.is_wrong = WrongRate.name in self._events.active_alarms()
 
     def _put_call(self, line: str) -> None:
         pair = self.trunk.facts().pair
@@ -209,18 +209,18 @@ class TrunkWatch:
     def tell(self, event: Event) -> None:
         """Tells a change to the journal and to all who follow. One that fails takes it from no other."""
         if isinstance(event, LineChanged):
-            guarded(self.trunk.reader.read, WATCH)()        # (what came up to the end of a call is counted)
+            report_failure(self.trunk.reader.read, WATCH)()        # (what came up to the end of a call is counted)
             event = replace(event, call=self._call_of(event))
             self._loop.call_soon(self.blocks.look)
             if event.state is not State.ANSWERED:
-                self._deaf.ended(event.circuit)
+                self._deaf.forget(event.circuit)
             self._loop.call_soon(self.codecs.look)
         for hears in tell_journal, self._show, self._tell_followers:
-            guarded(hears, WATCH)(event)
+            report_failure(hears, WATCH)(event)
 
     def _call_of(self, event: LineChanged) -> str | None:
         try:
-            return self.status.calls.took(event) or None
+            return self.status.calls.on_state_change(event) or None
         except Exception as fault:      # pylint: disable=broad-exception-caught
             has_failed(WATCH, fault)
             return None
@@ -245,7 +245,7 @@ class TrunkWatch:
         seconds, since = round(finding.value, 3), finding.since
         since = since and round(time.time() - time.monotonic() + since, 3)
         self.tell(Slip(seconds, since) if finding.what == 'gap' else Burst(seconds))
-        self._restarts.want(self._lines.open_circuits(), f'{finding.what} of {seconds} s')
+        self._restarts.request(self._lines.open_circuits(), f'{finding.what} of {seconds} s')
 
     def _note(self, what: str, why: str | None) -> None:
         """From any thread: something other than the calls has ended, or goes on."""
@@ -267,7 +267,7 @@ class TrunkWatch:
             **known, 'name': wants.name, 'version': facts.version, 'time': round(now, 3), 'fault': fault,
             'senders': facts.senders, 'log_losses': facts.log_losses,
             'uptime': 0.0 if fault else round(now - facts.since, 3),
-            'calls': [line._asdict() for line in self.status.calls.going()],
+            'calls': [line._asdict() for line in self.status.calls.open_calls()],
             **wants.files(), 'stale': self.counts.stale(), 'ended': self.ended | {'session': facts.session},
             'renewed': self._resyncs, 'alarms': self._events.alarms(), 'waiting': self._reloads.waiting(),
             'commands': [{'command': name, 'answer': answer, 'count': n}
@@ -288,33 +288,33 @@ class TrunkWatch:
             await self._listen(wants.control)
         if wants.http:
             server = TrunkServer(self.pages.fresh, wants.http[0], wants.picture)
-            await asyncio.start_server(server.came, sock=web_listener(*wants.http), limit=8192)
+            await asyncio.start_server(server.on_connect, sock=web_listener(*wants.http), limit=8192)
 
     async def _listen(self, path: str) -> None:
         listener = unix_listener(path, self.wants.control_mode, self.wants.control_group)
         if self._listens:
             self._listens.close()
-        self._listens = await asyncio.start_unix_server(self._server.came, sock=listener, limit=MOST_LINE)
+        self._listens = await asyncio.start_unix_server(self._server.on_connect, sock=listener, limit=MOST_LINE)
 
-    async def _listen_again(self, path: str) -> None:
+    async def _reopen_listener(self, path: str) -> None:
         with contextlib.suppress(OSError, CannotListen, KeyError):
             await self._listen(path)
 
     async def run(self) -> None:
         """Watches, until it is cancelled. Whatever fails is begun again."""
-        works = self.status.follow, self._program.run
+        works = self.status.run, self._program.run
         try:
-            with every(TICK, self._look, WATCH):
-                await asyncio.gather(*(again(work, WATCH) for work in works))
+            with run_periodically(TICK, self._check, WATCH):
+                await asyncio.gather(*(retry(work, WATCH) for work in works))
         finally:
             self._close()
 
-    def _look(self) -> None:
+    def _check(self) -> None:
         """A few times a second: whether octets come, what is to become of calls, and whether somebody has removed the
         control socket."""
         now = time.monotonic()
         if self.wants.control and not os.path.lexists(self.wants.control):
-            self._tasks.begin(self._listen_again(self.wants.control))
+            self._tasks.begin(self._reopen_listener(self.wants.control))
         self.status.look_at_flow(now)
         if self._lines.live:
             self._deaf.look(self._lines.place, {n: self.counts.circuits[n].stream for n, line in
@@ -326,7 +326,7 @@ class TrunkWatch:
         self._reloads.look(now)
         self._outages.look(now, self.status.outage())
 
-    def goes_on(self) -> None:
+    def on_trunk_restart(self) -> None:
         """The trunk goes on behind the end of this one, and so do its calls."""
         self._is_over = False
 
