@@ -22,17 +22,17 @@ TELLS = {'watcher.connection.PATIENCE': LONG}
 STARTED: dict[str, Any] = {
     'clock.STEADY': 0.0, 'clock.LEAST': LONG, 'holder.decisions.TRIED': LONG, 'holder.decisions.MOST_LINE_PAUSE': 0.01,
     'recording_ring.MOST_OWN': 1000,
-    **dict.fromkeys(('watcher.pages.put_behind', 'watcher.recordings.put_behind'), lambda *_: None)}
+    **dict.fromkeys(('watcher.http_pages.put_behind', 'watcher.recordings.put_behind'), lambda *_: None)}
 LIMITS: dict[str, Any] = {
-    'watcher.replay.CHECK': LONG, 'watcher.status.FIRST': LONG,
-    'watcher.decisions.QUIET': LONG, 'watcher.pages.DRAWN': LONG, 'watcher.missed.PATIENCE': LONG,
+    'watcher.replay.CHECK': LONG, 'watcher.tell_client.FIRST': LONG,
+    'watcher.flow.QUIET': LONG, 'watcher.http_pages.DRAWN': LONG, 'watcher.missed.PATIENCE': LONG,
     'watcher.feed.PATIENCE': LONG, 'watcher.standby.PATIENCE': LONG, 'watcher.pair.PATIENCE': LONG,
     'watcher.feed.FRESH': LONG, 'watcher.standby.FRESH': LONG, 'watcher.pair.FRESH': LONG,
     'watcher.standby.MOST_AGE': LONG, 'watcher.recordings.FLUSH': LONG, 'watcher.pair.GRACE': LONG,
     'watcher.connection.NEXT': LONG, 'e1gw_common.web.SECONDS': LONG,
-    'watcher.pages.EVERY': 0.0,
+    'watcher.http_pages.EVERY': 0.0,
     'e1gw_common.programs.PATIENCE': LONG, 'e1gw_common.writers.OPENS': LONG,
-    'watcher.door.PATIENCE': LONG, 'watcher.main.GRACE': LONG,
+    'watcher.ask_holder.PATIENCE': LONG, 'watcher.main.GRACE': LONG,
     'e1gw_common.line_files.FLUSH': LONG, 'watcher.journal.FLUSH': LONG, 'watcher.blocks.PATIENCE': LONG,
     # (A process that gets what others leave gets next to nothing on a loaded machine.)
     'priority.put_last': lambda process: None}

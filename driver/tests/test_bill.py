@@ -24,9 +24,9 @@ from e1gw.counts import DatagramCounts
 from e1gw.events import Event, LineChanged
 from e1gw_common.lines import IN_CALL, Role, State
 from e1gw.log_folder import LogPair, LogWriter
-from e1gw.watcher import reader as readers, status as statuses, trunk as trunks
+from e1gw.watcher import reader as readers, tell_client as statuses, trunk as trunks
 from e1gw.watcher.reader import ReadingNote
-from e1gw.watcher.status import TrunkStatus
+from e1gw.watcher.tell_client import TrunkStatus
 from e1gw_common.session import CIRCUITS, MULTIFRAME, Command, trunk_record
 from e1gw_common.writers import put_file
 

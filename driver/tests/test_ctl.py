@@ -43,7 +43,7 @@ class CtlWordTests(unittest.TestCase):
     def test_limits(self) -> None:
         """A command has longer than the watcher waits for what it asks."""
         last = limits.USUAL
-        self.assertGreater(ctl_all.LIMITS['reload'], last['watcher.door.PATIENCE'])
+        self.assertGreater(ctl_all.LIMITS['reload'], last['watcher.ask_holder.PATIENCE'])
         for word in 'promote', 'demote', 'move':
             self.assertGreater(ctl_all.LIMITS[word], last['watcher.pair.PATIENCE'] + last['watcher.feed.PATIENCE'])
 

@@ -8,7 +8,7 @@ from typing import Any
 from unittest import mock
 
 from . import support
-from .test_reports import BEGIN, counts, row
+from .test_tell_lines import BEGIN, counts, row
 from .test_watch import TrunkWatchCase
 from e1gw_common.call_lines import FIELDS, CallLine, csv_line, read_calls
 from e1gw.counts import ToldCounts

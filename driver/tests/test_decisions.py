@@ -9,8 +9,10 @@ from unittest import mock
 from . import limits, support
 from e1gw.holder.decisions import (DEATHS, FIRST_PAUSE, MOST_DEATHS, MOST_PAUSE, TRIED, WITHIN, Deaths)
 from e1gw.trial import MOST_ENDED, ReloadEffects
-from e1gw.watcher import decisions
-from e1gw.watcher.decisions import Flow, FlowChange, IdleReloads, choose_evicted
+from e1gw.watcher import flow
+from e1gw.watcher.control_clients import choose_evicted
+from e1gw.watcher.flow import Flow, FlowChange
+from e1gw.watcher.idle_reloads import IdleReloads
 
 
 class DecisionTests(unittest.TestCase):
@@ -54,7 +56,7 @@ class DecisionTests(unittest.TestCase):
             after = fresh.is_requested().answered(10.0, is_done)
             self.assertEqual([after.is_due(10.0 + each, ['idle']) for each in (seconds - 0.1, seconds)], [False, True])
 
-    @mock.patch.object(decisions, 'QUIET', limits.USUAL['watcher.decisions.QUIET'])
+    @mock.patch.object(flow, 'QUIET', limits.USUAL['watcher.flow.QUIET'])
     def test_a_stall(self) -> None:
         """It is found after a second, once; what nobody reports is not missed; octets end it."""
         flow, change = Flow(0, 10.0).update(0, 10.99, True)

@@ -12,7 +12,7 @@ from . import support
 from .support import octets_in
 from .keepers import CIRCUITS, KeeperCase
 from e1gw.watcher.commands import MOST_CLIENTS
-from e1gw.watcher.pages import MOST_READERS
+from e1gw.watcher.http_pages import MOST_READERS
 from e1gw_common.web import MOST_VISITORS
 from e1gw.log_folder import RECORDS_ROOM, LogFiles
 from e1gw_tie.site import STRANGERS

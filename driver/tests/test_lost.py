@@ -13,7 +13,7 @@ from . import support
 from .picture_made import configured, read_session, rtp
 from .properties import PropertyCase
 from .shown import ShownTables
-from .test_reports import BEGIN, row
+from .test_tell_lines import BEGIN, row
 from .test_trunk import aligned, call
 from .test_watch import TrunkWatchCase
 from .world import World

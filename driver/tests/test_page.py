@@ -25,11 +25,11 @@ from e1gw.events import (AlarmChanged, CardAlarm, CardAlarmChanged, Connected, C
                          SlotsChanged, Stalled, TrunkLost, TrunkOpened, WrongRate)
 from e1gw_common.lines import Alignment, Line, Role, State
 from e1gw.metrics import NOT_OPEN, head_of
-from e1gw.watcher import pages
+from e1gw.watcher import http_pages
 from e1gw.watcher.options import kept_of
 from e1gw.watcher.page import (POLICY, Look, Parts, ShownRow, circuit_row, ended_row, length, message_of, page_of,
                                trunk_row, trunks_page)
-from e1gw.watcher.pages import EventReaders
+from e1gw.watcher.http_pages import EventReaders
 from e1gw_common.web import NOTHING, PageRequest
 from e1gw_testing.ports import free_port
 from e1gw.udp_tables import sockets_of
@@ -177,7 +177,7 @@ class PageServerTests(unittest.IsolatedAsyncioTestCase):
     async def asyncSetUp(self) -> None:
         texts = mock.Mock(parts={'c1': [ShownRow(['1', 'idle'])]}, table='rows', metrics='samples', json='{}',
                           status={'name': 'west'})
-        pages_of = pages.TrunkServer(mock.AsyncMock(return_value=texts), '127.0.0.1', [])
+        pages_of = http_pages.TrunkServer(mock.AsyncMock(return_value=texts), '127.0.0.1', [])
         server = await asyncio.start_server(pages_of.on_connect, '127.0.0.1', 0)
         self.addCleanup(server.close)
         self.place = server.sockets[0].getsockname()
@@ -209,10 +209,11 @@ class PageServerTests(unittest.IsolatedAsyncioTestCase):
         status, kind, policy, body = await self.answered('GET', '/', 'Accept: text/html')
         self.assertEqual((status, kind, policy, '<title>trunk west' in body, '"c1"' in body),
                          ('200 OK', 'text/html', POLICY, True, True))
-        with mock.patch.object(pages, 'asked_trunks', lambda patience: ['north', patience]), \
-                mock.patch.object(pages, 'trunks_page', lambda trunks, host: f'{trunks} {host} \0</html>\n'.encode()):
+        with mock.patch.object(http_pages, 'asked_trunks', lambda patience: ['north', patience]), \
+                mock.patch.object(http_pages, 'trunks_page',
+                                  lambda trunks, host: f'{trunks} {host} \0</html>\n'.encode()):
             self.assertEqual((await self.answered('GET', '/trunks', 'Host: west.example:9'))[1:], (
-                'text/html', pages.DRAWING, f"['north', {pages.PATIENCE}] 127.0.0.1 west.example</html>\n"))
+                'text/html', http_pages.DRAWING, f"['north', {http_pages.PATIENCE}] 127.0.0.1 west.example</html>\n"))
 
 
 class EventReaderTests(unittest.IsolatedAsyncioTestCase):
@@ -220,7 +221,7 @@ class EventReaderTests(unittest.IsolatedAsyncioTestCase):
 
     async def asyncSetUp(self) -> None:
         self.looks, self.closed = 0, list[str]()
-        self.enterContext(mock.patch.multiple(pages, TOLD=0.0, MOST_READERS=2))
+        self.enterContext(mock.patch.multiple(http_pages, TOLD=0.0, MOST_READERS=2))
         self.readers = EventReaders(self.fresh)
         self.server = await asyncio.start_server(self.came, '127.0.0.1', 0)
         self.addCleanup(self.server.close)
@@ -255,14 +256,14 @@ class EventReaderTests(unittest.IsolatedAsyncioTestCase):
         await self.connect('slow')
         quick = await self.connect('quick')
         self.assertEqual([*await self.told(quick)], ['c1', 'c2'])
-        while not self.closed and 3000 * self.looks < 20 * pages.MOST_HELD:
+        while not self.closed and 3000 * self.looks < 20 * http_pages.MOST_HELD:
             self.assertEqual([*await self.told(quick)], ['c1'])
         self.assertEqual(self.closed, ['slow'])
         self.assertEqual([*await self.told(quick)], ['c1'])
 
     async def test_one_too_many(self) -> None:
         """The oldest goes, though nobody was told anything behind the whole page, as whoever comes is."""
-        with mock.patch.object(pages, 'TOLD', LONG):
+        with mock.patch.object(http_pages, 'TOLD', LONG):
             for name in ('first', 'second', 'third'):
                 reader = await self.connect(name)
             self.assertEqual([*await self.told(reader)], ['c1', 'c2'])
@@ -275,9 +276,10 @@ class WebPartTests(unittest.IsolatedAsyncioTestCase):
         """A page stays the same until something is told. Then all that was told is taken first."""
         takes, time, now = mock.Mock(), mock.Mock(), [10.0]
         time.monotonic = lambda: now[0]
-        its = pages.TrunkPages(lambda: {'circuits': [], 'takes': takes.call_count}, takes, [], mock.Mock())
+        its = http_pages.TrunkPages(lambda: {'circuits': [], 'takes': takes.call_count}, takes, [], mock.Mock())
         rest = mock.AsyncMock(side_effect=lambda seconds: now.append(now.pop() + seconds))
-        with mock.patch.multiple(pages, time=time, EVERY=0.25), mock.patch('e1gw.watcher.pages.asyncio.sleep', rest):
+        with mock.patch.multiple(http_pages, time=time, EVERY=0.25), \
+                mock.patch('e1gw.watcher.http_pages.asyncio.sleep', rest):
             for is_told, count in (False, 1), (False, 1), (True, 4):
                 if is_told:
                     its.changed()
@@ -305,9 +307,9 @@ class WebPartTests(unittest.IsolatedAsyncioTestCase):
         async def run_process(*_: object) -> tuple[int, str, bytes]:
             await drawn.wait()
             return 0, '', b'<html></html>\n'
-        with mock.patch.multiple(pages, WAITED=0.01, put_behind=mock.Mock(), run_process=run_process,
+        with mock.patch.multiple(http_pages, WAITED=0.01, put_behind=mock.Mock(), run_process=run_process,
                                  start_process=start_process, time=mock.Mock(monotonic=lambda: 100.0 + seconds)):
-            page = pages.SlowPage(lambda: pages.picture_of(['--last', '60s', 'ring']))
+            page = http_pages.SlowPage(lambda: http_pages.picture_of(['--last', '60s', 'ring']))
             for seconds in 0, 7, 30:
                 self.assertIn(f'<progress value="{seconds}" max='.encode(), await page.fresh())
             drawn.set()

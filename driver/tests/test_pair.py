@@ -11,7 +11,7 @@ from unittest import mock
 from . import support
 from e1gw_common.answers import DONE, AnswerWord, CommandAnswer, refused
 from e1gw.holder_state import ACTIVE, STANDBY, TrunkPlaces, start_of
-from e1gw.watcher import door, pair
+from e1gw.watcher import ask_holder, pair
 from e1gw.watcher.pair import NOT_TAKEN, REVERSE, TrunkPair
 
 
@@ -30,7 +30,7 @@ class PairTests(support.LoopCase):
         self.feed.age.return_value = self.standby.age.return_value = 0.5
         self.asked, self.runs, self.holds = list[str](), list[str](), asyncio.Event()
         self.holds.set()
-        self.enterContext(mock.patch.object(door, 'ask_within', self.heard))
+        self.enterContext(mock.patch.object(ask_holder, 'ask_within', self.heard))
         self.its = TrunkPair(self.trunk, self.standby, self.feed)
         self.addCleanup(self.its.close)
 
@@ -132,6 +132,7 @@ class PairTests(support.LoopCase):
         for fault, answer in (
                 (TimeoutError(), CommandAnswer(AnswerWord.UNKNOWN, 'the holder does not answer within 30 s')),
                 (ConnectionRefusedError(111, 'x'), refused(f'there is no holder: {self.folder}/hold: x'))):
-            with mock.patch.object(door, 'ask_within', side_effect=fault), mock.patch.object(pair, 'PATIENCE', 30.0):
+            with mock.patch.object(ask_holder, 'ask_within', side_effect=fault), \
+                    mock.patch.object(pair, 'PATIENCE', 30.0):
                 self.assertEqual(await self.its.change('demote'), answer)
         self.assertEqual(self.asked, [])

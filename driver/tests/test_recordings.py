@@ -18,10 +18,10 @@ from . import support
 from .logs import WrittenLog
 from .plain_trunk import PlainTrunk
 from .support import SECONDS
-from .test_reports import BEGIN, row
+from .test_tell_lines import BEGIN, row
 from e1gw.clock import TICK, ClockFinding
 from e1gw.counts import DatagramCounts
-from e1gw.watcher import reader, recordings, status
+from e1gw.watcher import reader, recordings, tell_client
 from e1gw.log_folder import RECORDS, LogState
 from e1gw.watcher.reader import LogReader, ReadingNote
 from e1gw.watcher.recordings import RecordingNote, RecordingWants, TrunkRecording
@@ -222,9 +222,9 @@ class LogReaderTests(support.LoopCase):
         config, tell = self.write('trunk.toml', 'law = "A"\n[[circuit]]\nnumber = 1\n'), self.path('tell')
         trunk = PlainTrunk(self.reader, self.folder, config)
         setattr(trunk, 'missed_reports', mock.AsyncMock(return_value=None))
-        with support.listening(tell) as listener, mock.patch.object(status, 'PATIENCE', 0.01, create=True), \
-                mock.patch.object(status, 'REST', 0.001):
-            its = status.TrunkStatus(trunk, 'west', lambda event: None, DatagramCounts(), lambda line: None)
+        with support.listening(tell) as listener, mock.patch.object(tell_client, 'PATIENCE', 0.01, create=True), \
+                mock.patch.object(tell_client, 'REST', 0.001):
+            its = tell_client.TrunkStatus(trunk, 'west', lambda event: None, DatagramCounts(), lambda line: None)
             follows = asyncio.create_task(its.run())
             await asyncio.sleep(0)
             with listener.accept()[0] as line:

@@ -13,7 +13,7 @@ from .support import FolderCase
 from e1gw import trial
 from e1gw.holder import holder as held, main, starting
 from e1gw.log_folder import LogPair
-from e1gw.watcher import pages
+from e1gw.watcher import http_pages
 from e1gw.watcher.reader import LogReader
 from e1gw_common.unix_listener import CannotListen, unix_listener
 
@@ -91,10 +91,10 @@ class HostTests(unittest.IsolatedAsyncioTestCase):
 
     async def test_who_draws_is_behind_the_calls(self) -> None:
         behind, process = mock.Mock(), mock.Mock(pid=7)
-        with mock.patch.multiple(pages, put_behind=behind, start_process=mock.AsyncMock(return_value=process),
+        with mock.patch.multiple(http_pages, put_behind=behind, start_process=mock.AsyncMock(return_value=process),
                                  run_process=mock.AsyncMock(return_value=(0, '', b'x'))):
-            self.assertEqual(await pages.picture_of([]), b'x')
-        behind.assert_called_once_with(7, pages.NICE)
+            self.assertEqual(await http_pages.picture_of([]), b'x')
+        behind.assert_called_once_with(7, http_pages.NICE)
 
 
 class ControlPlaceTests(FolderCase):

@@ -129,7 +129,7 @@ class OperatorTests(unittest.TestCase):
     def test_answers(self) -> None:
         """A change, then the answer to the command that made it, and a status that has it. Several clients at once get
         their own. Nobody seizes while the other end has no alignment, or the trunk no octets."""
-        world = self.world(within={'watcher.decisions.QUIET': 0.5})
+        world = self.world(within={'watcher.flow.QUIET': 0.5})
         events = self.events(world)
         support.until(lambda: bool(world.told()['clock']['stalled']))
         self.assertEqual(world.ask('seize 1'), 'seize 1: refused: the trunk is stalled')

@@ -12,7 +12,7 @@ from typing import Any
 from unittest import mock
 
 from . import support
-from .test_reports import BEGIN, counts, row
+from .test_tell_lines import BEGIN, counts, row
 from e1gw.call_names import CallNames
 from e1gw.calls import CallLog, CallsNote
 from e1gw.clock import ClockFinding, TrunkRate
@@ -21,7 +21,7 @@ from e1gw.events import (Burst, CallsCleared, Event, FlowChanged, Flows, RateCha
 from e1gw_common import line_files
 from e1gw_common.lines import Line, Role, State
 from e1gw.resyncs import Resyncs
-from e1gw.watcher import decisions, status, watch
+from e1gw.watcher import flow, tell_client, watch
 from e1gw.watcher.commands import MOST_HELD, ControlPeer
 from e1gw.watcher.connection import ProgramConnection
 from e1gw.watcher.journal import NOTICE, LineFormatter
@@ -29,7 +29,7 @@ from e1gw.watcher.missed import MissedReports
 from e1gw.watcher.note import typed
 from e1gw.watcher.page import PageNotes, body_of, parts_of
 from e1gw_common.web import MOST_VISITORS, WebServer
-from e1gw.watcher.pages import TrunkPages
+from e1gw.watcher.http_pages import TrunkPages
 from e1gw.watcher.trunk import PairFacts, TrunkFacts
 from e1gw_common.session import CIRCUITS, OCTETS_A_SECOND, Command, command_record
 
@@ -200,7 +200,7 @@ class WatchEdgeTests(TrunkWatchCase):
                 its.take_up(CallsNote(OCTETS_A_SECOND, 0, 0.0, {}, (), {}, ()))
             missed = MissedReports(OCTETS_A_SECOND, False, 3 * OCTETS_A_SECOND, 3 * OCTETS_A_SECOND + 1024, text)
             with mock.patch.object(its._trunk, 'missed_reports', mock.AsyncMock(return_value=missed)), \
-                    mock.patch.object(status, 'logger') as told:
+                    mock.patch.object(tell_client, 'logger') as told:
                 await its._catch_up(missed.last)
             self.assertEqual([call.args[1] for call in told.warning.call_args_list], [2.0] * is_known)
             self.assertEqual(its.lines.place, missed.last * is_known)
@@ -275,7 +275,7 @@ class WatchEdgeTests(TrunkWatchCase):
         """They are counted; octets that are counted anew, by another machine, are no stall."""
         its = self.watched().status
         its._line = mock.Mock()
-        with mock.patch.object(decisions, 'QUIET', 1.0):
+        with mock.patch.object(flow, 'QUIET', 1.0):
             for place in 1000, 1000, 1000, 1000, 1, 2:
                 self.now += 0.6
                 with mock.patch.object(its._trunk, 'place', lambda: place):

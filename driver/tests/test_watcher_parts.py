@@ -21,8 +21,8 @@ from e1gw.lock import InUse
 from e1gw.log_folder import LogPair, LogWriter, logged_by
 from e1gw_common.session import MULTIFRAME, trunk_record
 from e1gw.slots import SlotsNote
-from e1gw.watcher import door
-from e1gw.watcher.decisions import Flow
+from e1gw.watcher import ask_holder
+from e1gw.watcher.flow import Flow
 from e1gw.watcher.blocks import BlockStage, BlockedCircuits
 from e1gw.watcher.held import HeldNote, HeldTrunk, events_of, fault_of, nearest, wait_of
 from e1gw.watcher.main import WatchLock, is_over, parser
@@ -31,8 +31,8 @@ from e1gw.watcher.missed import replay_reports
 from e1gw.watcher.process import start_process
 from e1gw.watcher.reader import LogReader, ReadingNote
 from e1gw.watcher.recordings import RecordingNote
-from e1gw.watcher.said import LineNote, SaidFile, SaidLine, SaidNote
-from e1gw.watcher.status import ToldNote
+from e1gw.watcher.program_output import LineNote, SaidFile, SaidLine, SaidNote
+from e1gw.watcher.tell_client import ToldNote
 from e1gw.watcher.watch import ShownNote
 
 STATE = HolderState(INTERFACE, '0.1.0', 7, 8, 9, 5.0, 'begins', False, True, 4.0, '', 0, (), '0.1.0', 'host', False,
@@ -121,7 +121,7 @@ class SaidFileTests(support.FolderCase):
             self.write('satop.ends', json.dumps({'words': ['127.0.0.1:5000', far, '--size', '256']}))
             told = list[Event]()
             its = SaidLine(self.path('said'), self.path('satop'), (), None, told.append)
-            with mock.patch('e1gw.watcher.said.unheard', side_effect=(5000, 6000)):
+            with mock.patch('e1gw.watcher.program_output.unheard', side_effect=(5000, 6000)):
                 for ticks in 1000, 2000:
                     with open(self.path('satop'), 'a', encoding='ascii') as file:
                         file.write(f'satop received=0 ticks={ticks}\n')
@@ -136,7 +136,7 @@ class SaidFileTests(support.FolderCase):
         self.write('satop', 'satop received=9 ticks=4\n')
         told = list[Event]()
         its = SaidLine(self.path('said'), self.path('satop'), STATE.words, None, told.append)
-        with self.assertLogs('e1gw.watcher.said') as logs:
+        with self.assertLogs('e1gw.watcher.program_output') as logs:
             its.look()
         self.assertEqual([each.getMessage() for each in logs.records], ['program: odd words'])
         self.assertEqual([type(each) for each in told], [Crc4Changed, SatopChanged])
@@ -236,7 +236,7 @@ class HolderDoorTests(support.LoopCase):
             writer.close()
         server = await asyncio.start_unix_server(came, self.path('hold'))
         try:
-            return await door.ask(self.path('hold'), 'reload force', 0.1 if answer is None else None)
+            return await ask_holder.ask(self.path('hold'), 'reload force', 0.1 if answer is None else None)
         finally:
             server.close()
             os.unlink(self.path('hold'))
@@ -250,7 +250,7 @@ class HolderDoorTests(support.LoopCase):
                 (None, CommandAnswer(AnswerWord.UNKNOWN, 'the holder does not answer within 0.1 s'))):
             self.assertEqual(await self.answers(said), answer)
             self.assertEqual(self.said, b'reload force\n')
-        self.assertRegex((await door.ask(self.path('hold'), 'quit')).lines('quit'),
+        self.assertRegex((await ask_holder.ask(self.path('hold'), 'quit')).lines('quit'),
                          'quit: refused: there is no holder: .*No such file')
 
 

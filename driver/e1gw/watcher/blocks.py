@@ -20,7 +20,7 @@ from e1gw_common.session import CIRCUITS, Command, CommandRefusal
 from e1gw_common.tasks import Tasks
 from e1gw_common.writers import put_file
 from ..events import BlockNews, CallsCleared, CircuitsBlocked, Tell
-from ..reports import TrunkState
+from .tell_lines import TrunkState
 
 PATIENCE = 2.0              # seconds for a disk, and for what the program answers
 NOT_BLOCKED = CommandRefusal.NOT_BLOCKED

@@ -9,7 +9,7 @@ from typing import Any, Callable, Coroutine, Iterable, Mapping
 
 from e1gw_common.lines import IN_CALL, Line
 from e1gw_common.tasks import Tasks
-from ..reports import TrunkState
+from .tell_lines import TrunkState
 
 
 def codecs_over(lines: Iterable[Line], given: Mapping[int, int]) -> list[int]:

@@ -34,7 +34,7 @@ from e1gw_common.session import Codec, Command, circuit_of, circuits_of, codec_r
 from e1gw_common.tasks import Tasks
 from ..events import WatchEnded
 from ..metrics import circuit_table
-from .decisions import choose_evicted
+from .control_clients import choose_evicted
 
 if TYPE_CHECKING:
     from .watch import TrunkWatch

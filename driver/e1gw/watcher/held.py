@@ -22,11 +22,11 @@ from ..memory import in_memory
 from ..satop_numbers import number_of_now
 from .card import CardWatch
 from .connection import connected
-from .door import ask
+from .ask_holder import ask
 from .blocks import KeptBlocks
 from .reader import MOST_FOUND, LogReader
 from .replay import ReplayVersion
-from .said import LineNote, SaidLine
+from .program_output import LineNote, SaidLine
 from .trunk import TrunkFacts, WatchedTrunk, place_told
 
 if TYPE_CHECKING:

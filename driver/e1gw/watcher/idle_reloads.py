@@ -3,11 +3,33 @@ asked again. Which these are the holder says, so nothing has to be known from on
 from __future__ import annotations
 
 import time
+from dataclasses import dataclass
+from math import inf
+from typing import Iterable
 
+from e1gw_common.lines import IN_CALL
 from e1gw_common.tasks import Tasks
-from ..reports import TrunkState
-from .decisions import IdleReloads
+from .tell_lines import TrunkState
 from .trunk import WatchedTrunk
+
+RELOADED, REFUSED = 2.0, 60.0           # seconds between two reloads of what waits, and behind one that was refused
+
+
+@dataclass(frozen=True)
+class IdleReloads:
+    """When the holder may be asked to reload what waits: one at a time, and later if one was refused."""
+
+    due: float = 0.0
+
+    def is_due(self, now: float, waiting: Iterable[str]) -> bool:
+        """Whether it is to be asked, where the circuits that wait are in these states."""
+        return now >= self.due and any(state not in IN_CALL for state in waiting)
+
+    def is_requested(self) -> IdleReloads:
+        return IdleReloads(inf)
+
+    def answered(self, now: float, is_done: bool) -> IdleReloads:
+        return IdleReloads(now + (RELOADED if is_done else REFUSED))
 
 
 class IdleReloadWatch:

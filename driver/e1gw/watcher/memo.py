@@ -12,7 +12,7 @@ from .held import HeldNote
 from .note import typed
 from .reader import ReadingNote
 from .recordings import RecordingNote
-from .status import ToldNote
+from .tell_client import ToldNote
 from .watch import ShownNote
 
 VERSION = 2

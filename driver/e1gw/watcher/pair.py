@@ -16,7 +16,7 @@ from e1gw_common.tls import context_of
 from ..events import Tell
 from ..holder_state import start_of
 from ..log_folder import LogPair
-from .door import ask
+from .ask_holder import ask
 from .feed import FRESH, FeedServer
 from .held import HeldTrunk
 from .journal import NOTICE

@@ -37,8 +37,8 @@ from .codecs import CodecWatch
 from .idle_reloads import IdleReloadWatch
 from .journal import NOTICE, tell_journal
 from .page import PageNotes
-from .pages import TrunkPages, TrunkServer
-from .status import WATCH, TrunkStatus
+from .http_pages import TrunkPages, TrunkServer
+from .tell_client import WATCH, TrunkStatus
 from .trunk import WatchedTrunk
 
 TICK = 0.24                 # seconds between two looks

@@ -9,9 +9,9 @@ from unittest import mock
 from . import support
 from e1gw.counts import DatagramCounts
 from e1gw.events import Disconnected, Event, LineChanged
-from e1gw.reports import BadTelling, TrunkState
+from e1gw.watcher.tell_lines import BadTelling, TrunkState
 from e1gw_common.session import DatagramRefusal
-from e1gw.watcher import status
+from e1gw.watcher import tell_client
 from e1gw.watcher.trunk import TrunkFacts
 
 IDLE = [f'{n:2} outgoing idle        10 10          0          0          0 pcma      8' for n in range(1, 31)]
@@ -223,8 +223,8 @@ class ReportReadingTests(support.LoopCase):
             'places.return_value.tell': tell, 'config_path.return_value': config, 'facts.return_value': TrunkFacts(),
             'session.return_value': '', 'start_octet.return_value': 0,
             'missed_reports': mock.AsyncMock(return_value=None), 'know_place': mock.AsyncMock()})
-        with support.listening(tell) as listener, mock.patch.object(status, 'REST', 0.001):
-            its = status.TrunkStatus(trunk, 'west', events.append, DatagramCounts(), lambda line: None)
+        with support.listening(tell) as listener, mock.patch.object(tell_client, 'REST', 0.001):
+            its = tell_client.TrunkStatus(trunk, 'west', events.append, DatagramCounts(), lambda line: None)
             its.set_connected('control', True)
             follows = asyncio.create_task(its.run())
             await asyncio.sleep(0)

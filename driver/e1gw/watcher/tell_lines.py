@@ -6,8 +6,9 @@ from typing import Any, Callable, Mapping
 
 from e1gw_common.lines import IN_CALL, LEADS, OPEN, PAIRS, UNKNOWN, Alignment, Line, Role, State, law_of, lines_of
 from e1gw_common.session import Codec, Command, codec_record, command_record
-from .counts import DatagramCounts, ToldCounts
-from .events import (AlarmChanged, AlignmentFound, AlignmentLost, CodecChanged, LineChanged, Placed, RemoteAlarmChanged)
+from ..counts import DatagramCounts, ToldCounts
+from ..events import (AlarmChanged, AlignmentFound, AlignmentLost, CodecChanged, LineChanged, Placed,
+                      RemoteAlarmChanged)
 
 VERSION = '1'
 MOST_LINE = 4096            # octets of a line

@@ -17,9 +17,9 @@ from ..calls import CallLog, CallsNote
 from ..counts import DatagramCounts
 from ..events import Connected, Disconnected, Flows, LineChanged, Placed, Stalled, Tell
 from ..call_names import CallNames, note_of
-from ..reports import BadTelling, TrunkState
-from . import decisions
-from .decisions import Flow, FlowChange
+from .tell_lines import BadTelling, TrunkState
+from . import flow
+from .flow import Flow, FlowChange
 from .missed import MissedReports
 from .trunk import WatchedTrunk, place_told
 
@@ -278,7 +278,7 @@ class TrunkStatus:
             self.tell(Flows(round(now - (before.stood or now), 3)))
         elif change is FlowChange.STALLED:
             self.set_connected('reports', True)
-            self.tell(Stalled(decisions.QUIET))
+            self.tell(Stalled(flow.QUIET))
 
     def place(self) -> int:
         """Octets of the trunk up to now. (Its log may have ended, and it goes on.)"""
