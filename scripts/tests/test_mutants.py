@@ -94,6 +94,12 @@ class Edits(unittest.TestCase):
             made = {ast.dump(ast.parse(edit.made(text.encode()))) for edit in edits_of(text)}
             self.assertEqual((len(made), ast.dump(ast.parse(text)) in made), (len(edits_of(text)), False))
 
+    def test_those_that_are_listed(self) -> None:
+        """Each is of a line that its module has: it would be forgotten in silence with the line."""
+        listed = mutants.listed_in(Path(TOP, mutants.LISTED).read_text(encoding='utf-8'))
+        modules = {row.partition(': ')[0] for row in listed}
+        self.assertEqual({*listed} - {each.row() for each in mutants.mutants_of(Path(TOP), modules)}, set())
+
     def test_lines_that_see_it(self) -> None:
         """Those of its statement; whatever uses the module sees one outside of functions."""
         text = 'A = 1\ndef f(a=1):\n    if (a and\n            b == 2):\n        g(3,\n          4)\n'
