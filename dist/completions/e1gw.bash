@@ -6,7 +6,7 @@ _e1gw_values() {
     --law) echo 'a mu' ;;
     --codec) echo 'g711 g726-16 g726-24 g726-32 g726-40' ;;
     --ptime) echo '10 20 30' ;;
-    --senders) echo 'any host peer' ;;
+    --senders) echo 'any first host peer' ;;
     --fill) echo 'again ones' ;;
     --clock) echo 'packets own' ;;
   esac
