@@ -1,5 +1,5 @@
 //! Laws of the log: what its files leave whenever the program is killed, what the next start begins with, and
-//! what was sent.
+//! what was given out.
 ghost use Rattle.gw_log.specs.Calls.{LogsAreLeft};
 ghost use Rattle.gw_log.specs.Lives.{StartsAnswerTheirLogs};
 ghost use Rattle.gw_log.specs.Starts.{StartsGoOn};
@@ -21,8 +21,8 @@ pub fn starts_go_on()
     gw_session::laws::at_most_one_reading();
 }
 
-/// .. and what each start sent is the first of what answers what it has logged, behind all that those before
-/// it have logged, and all of that but for a part of the last record's.
+/// .. and the packets and octets that each start gave out are the first of what answers what it has logged,
+/// behind all that those before it have logged, and all of that but for a part of the last record's.
 pub fn starts_answer_their_logs()
     ensures { StartsAnswerTheirLogs }
 {

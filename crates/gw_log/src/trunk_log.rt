@@ -7,7 +7,7 @@ ghost use Rattle.gw_records.specs.Records.{IsGood, named, spelled};
 ghost use Rattle.gw_session.specs.Answers.{events_of};
 ghost use Rattle.gw_session.specs.Running.{all_kinds};
 ghost use Rattle.gw_session.specs.Tape.{HasEnded, Learns, Recorded, WritesRecords};
-ghost use Rattle.gw_session.specs.Tape.{answers_at, keeps_at, sends_at};
+ghost use Rattle.gw_session.specs.Tape.{answers_at, gone_to, keeps_at};
 ghost use Rattle.gw_log.specs.LogTape.{IsOpenedOver};
 ghost use Rattle.gw_log.specs.Resuming.{IsFoundIn};
 ghost use Rattle.gw_log.specs.Logs.{IsUnused};
@@ -16,9 +16,8 @@ ghost use Rattle.gw_log.specs.Logs.{place_after_kept, place_after_loaded, told_b
 
 use crate::checkpoint::checkpoint_place;
 use crate::file_log::{FileLog, LogFault};
-use g704_cas::CircuitNo;
-use gw_records::RecordHead;
-use gw_session::{Tape, TrunkRecord, spell};
+use gw_records::{Answers, RecordHead};
+use gw_session::{PacketPorts, Tape, TrunkRecord, spell};
 use gw_switch::{Gateway, GatewayConfig};
 use log_files::{KeptContents, Loaded, LogFiles, Pair, Store};
 use std::alloc::Global;
@@ -178,22 +177,22 @@ impl<S: Store> Tape for TrunkLog<S> {
         self.log.has_ended()
     }
 
-    fn keep(&mut self, gateway: &Gateway)
+    fn keep<O: PacketPorts<A>, A: Answers>(
+        &mut self,
+        gateway: &Gateway,
+        _ports: &O,
+        _sink: &A::Sink,
+    )
         ensures learns { Learns (told_by self.old) (told_by self.new)
-            (keeps_at (told_by self.old) gateway.now ∷ []) }
+            (keeps_at (told_by self.old) gateway.now (gone_to (O.tells _ports.now) (A.tells _sink.now)) ∷ []) }
         ensures kept { Shown self.old self.new gateway.now }
     {
         self.log.keep(gateway);
     }
 
-    fn before_send(&mut self, _circuit: CircuitNo, _packet: &[u8])
+    fn before_answer<O: PacketPorts<A>, A: Answers>(&mut self, _ports: &O, _sink: &A::Sink)
         ensures learns { Learns (told_by self.old) (told_by self.new)
-            (sends_at (told_by self.old) (_circuit, _packet.now) ∷ []) }
-        ensures same { self.new ≡ self.old }
-    {}
-
-    fn before_answer(&mut self)
-        ensures learns { Learns (told_by self.old) (told_by self.new) (answers_at (told_by self.old) ∷ []) }
+            (answers_at (told_by self.old) (gone_to (O.tells _ports.now) (A.tells _sink.now)) ∷ []) }
         ensures same { self.new ≡ self.old }
     {}
 }

@@ -27,7 +27,7 @@ pub use Rattle.gw_session.specs.Answers.{sent_with}
 pub use Rattle.gw_session.specs.Exchange.{TakesEvent, Exchanges, ActsOn, Inputs, written_by, StopsAt, CutTrace}
 pub use Rattle.gw_session.specs.Exchange.{InputTrace, WatchedTrace, ComesInTurn, GoToPorts, OctetTrace}
 pub use Rattle.gw_session.specs.Exchange.{PacketWriteError, TraceToWriteError, AreShown, IsSilent, packets_held}
-pub use Rattle.gw_session.specs.Exchange.{Receiving, RecordsBehind, IsGiven, FourCome}
+pub use Rattle.gw_session.specs.Exchange.{Receiving, RecordsBehind, IsGiven, FourCome, IsToldFirst, TookBut}
 unfoldable pub use Rattle.gw_session.specs.Exchange.{spelled_for, written_for}
 pub use Rattle.gw_session.specs.PacketPorts.{PacketOutput, in_record, no_ports, silent}
 pub use Rattle.gw_session.specs.RecordingLaws.{all_answers, answers_to, command_in, RecordingsAnswerAlike}
@@ -40,13 +40,14 @@ pub use Rattle.gw_session.specs.Serve.{octets_for, written, turns, Follows, Sess
 pub use Rattle.gw_session.specs.Serve.{of_circuit, behind_four, FirstFour, first_four, Stop, StopsSo, last_receive}
 pub use Rattle.gw_session.specs.Serve.{LeavesOut, SessionStreams, Served, ServesAll, ServesUntil, InTurn, served_kinds}
 pub use Rattle.gw_session.specs.Serve.{IsFew, ComeFirst, IsStopped, GatewayTrace, TurnsTrace, receives_in, send_of}
-pub use Rattle.gw_session.specs.Serve.{packets_of, AreSends, AreCalls, AreCallsFor, are_held, HaveCalls, held_in}
-pub use Rattle.gw_session.specs.Serve.{acts_for, AreActs, StandsBehind, OfFirstInputs}
+pub use Rattle.gw_session.specs.Serve.{packets_of, AreSends, AreCalls, AreCallsFor, are_held, HaveCalls}
+pub use Rattle.gw_session.specs.Serve.{AreActs, StandsBehind, OfFirstInputs}
 unfoldable pub use Rattle.gw_session.specs.Serve.{answer_to, dropped_for, given_by, but_last}
 pub use Rattle.gw_session.specs.ServeLaws.{ServingIsCutAnywhere, UnmovedCounts, without_datagrams, EventsAreTold}
 pub use Rattle.gw_session.specs.ServeLaws.{DatagramsAreInTurn}
 pub use Rattle.gw_session.specs.Tape.{TapeState, Recorded, RecordedBut, HasEnded, HasLong, WritesRecords, Taping}
-pub use Rattle.gw_session.specs.Tape.{taping, Batches, RecordsAll, Act, Learns, sends_at, answers_at, keeps_at}
+pub use Rattle.gw_session.specs.Tape.{taping, Batches, RecordsAll, Act, Learns, answers_at, keeps_at}
+pub use Rattle.gw_session.specs.Tape.{Gone, gone_to}
 pub use Rattle.gw_session.specs.Watch.{Shows, Look, IsCalled, IsCodeAfter, AreTrue, Watched, InputsShown, RecordsShown}
 pub use Rattle.gw_session.specs.Watch.{OfFirst}
 unfoldable pub use Rattle.gw_session.specs.Watch.{looks_at}

@@ -1,154 +1,49 @@
--- However a session is cut off, what it did is the beginning of what answers its log.
-use Rattle.gw_session.proofs.Common.{◌≡◌, ◌⊎◌, inl, inr, ℕ, suc, List, [], ◌∷◌, ◌++◌, length, refl, sym, ap, arith}
-use Rattle.gw_session.proofs.Common.{rules, ◌∙◌, append_assoc, append-nil, map, flat_map, Option, Some, Bool, false}
-use Rattle.gw_session.proofs.Common.{AllByRecursion, GatewayConfig, Event, HasHistory, Record, Reads, Reply, spelled}
-use Rattle.gw_session.proofs.Common.{events, events_of, octets, all_kinds, whole_from, given_by, SessionInput, Turn}
-use Rattle.gw_session.proofs.Common.{packets_of, packet_in, packets_in, sent_with, turns, turns_of, events_in}
-use Rattle.gw_session.proofs.Common.{events_through, packets_for, sent_with_octets, acts_for, written, answer_to}
-use Rattle.gw_session.proofs.Common.{Recorded, TapeState, Act, keeps_at, sends_at, answers_at, AreActs, Gateway}
-use Rattle.gw_session.proofs.Common.{StandsBehind, length-map, map-append, flat_map-append, append_cancel_left, take}
-use Rattle.gw_session.proofs.Common.{drop, take_at, drop_at}
-use Rattle.gw_session.specs.Killed.{sent_in, answers_in, had_taken, IsGoing, taken_at_last, taken_at_next, new_tape}
-use Rattle.gw_session.specs.Killed.{AreOfNext, HoldsPackets, CutSessionsAnswerTheirLogs}
-use Rattle.gw_session.specs.Serve.{packet_of}
+-- However a session is cut off, what it gave out is the beginning of what answers its log.
+use Rattle.gw_session.proofs.Common.{◌≡◌, ◌⊎◌, inl, inr, ℕ, List, [], ◌∷◌, ◌++◌, length, refl, sym, ap, arith}
+use Rattle.gw_session.proofs.Common.{◌∙◌, append_assoc, append-nil, flat_map, Option, None, Some, false}
+use Rattle.gw_session.proofs.Common.{Bool, length-append, nil_from_length, Appends, Extends}
+use Rattle.gw_session.proofs.Common.{AllByRecursion, GatewayConfig, Event, HasHistory, Record, Reads, spelled}
+use Rattle.gw_session.proofs.Common.{events, events_of, all_kinds, SessionInput, SessionState, events_in, turns}
+use Rattle.gw_session.proofs.Common.{events_through, packets_for, written, answer_to, LeavesOut, TurnsTrace}
+use Rattle.gw_session.proofs.Common.{given_by}
+use Rattle.gw_session.proofs.Common.{Recorded, TapeState, Act, Gone, keeps_at, answers_at, AreActs, Gateway}
+use Rattle.gw_session.proofs.Common.{StandsBehind, flat_map-append, append_cancel_left}
+use Rattle.gw_session.specs.Killed.{had_taken, had_gone, IsGoing, at_last, at_next, new_tape, nothing_gone}
+use Rattle.gw_session.specs.Killed.{AreOfNext, HoldsPackets, IsBetween, AnswersNext, CutSessionsAnswerTheirLogs}
 use Rattle.gw_records.specs.declared.records.RecordsEnd.{RecordsEnd}
 use Rattle.gw_records.specs.declared.records.RecordsEnd.TheVariants as endings
 use Rattle.gw_records.proofs.Readings.{more_keeps}
-use Rattle.gw_session.proofs.Attending.{inputs_octets}
 use Rattle.gw_session.proofs.ReadBack.{reads_all}
 use Rattle.gw_session.proofs.Recovery.{cut_reads}
 use Rattle.gw_session.proofs.Taping.{recorded_none, recorded_join}
-use Rattle.gw_session.proofs.Turns.{given_by-append, through-append}
+use Rattle.gw_session.proofs.Turns.{through-append}
 
--- one place in two lists that are equal
-split_same : {X : Type 0} (xs ys us vs : List X) → xs ++ ys ≡ us ++ vs → length xs ≡ length us
-    → (xs ≡ us) × (ys ≡ vs)
-split_same xs ys us vs e len = (
-  sym (take_at xs ys (length xs) refl) ∙ ap (take (length xs)) e ∙ take_at us vs (length xs) (sym len),
-  sym (drop_at xs ys (length xs) refl) ∙ ap (drop (length xs)) e ∙ drop_at us vs (length xs) (sym len),
-)
+-- what is known of what had gone out behind inputs, and that it is all or the first of it
+abbrev Known : Type 1
+Known = List SessionInput → Gone → Type 0
 
--- a place for each octet
-sent_with-length : (config : GatewayConfig) (before es : List Event)
-    → length (sent_with_octets config before es) ≡ length (octets es)
-unfolding given_by
-sent_with-length config before [] = refl
-sent_with-length config before (Event.Octet o ∷ es) = ap suc (sent_with-length config (before ++ Event.Octet o ∷ []) es)
-sent_with-length config before (e ∷ es) = sent_with-length config (before ++ e ∷ []) es
+-- no event is of the next input
+none_of_next : (inputs : List SessionInput) → AreOfNext [] inputs
+none_of_next [] = refl
+none_of_next (input ∷ inputs) = (events_in input, refl)
 
--- the packets of turns are those in their places
-packets_placed : (ts : List Turn) → packets_of ts ≡ flat_map packet_in (map packet_of ts)
-packets_placed [] = refl
-packets_placed (t ∷ ts) = ap (λ (ps : List (ℕ × List ℕ)). packet_in t.packet ++ ps) (packets_placed ts)
-
--- .. so are those of replies
-replies_placed : (rs : List Reply) → flat_map packets_in rs ≡ flat_map packet_in (flat_map sent_with rs)
-replies_placed [] = refl
-replies_placed (Reply.Sent out ∷ rs) =
-    ap (λ (ps : List (ℕ × List ℕ)). packet_in out.packet ++ ps) (replies_placed rs)
-replies_placed (r ∷ rs) = replies_placed rs
-
--- the packets of turns are those that the gateway sends
-packets_sent : (config : GatewayConfig) (before es : List Event) (ts : List Turn)
-    → map packet_of ts ≡ sent_with_octets config before es → packets_of ts ≡ packets_for config before es
-unfolding given_by
-packets_sent config before es ts e =
-    packets_placed ts ∙ ap (flat_map packet_in) e ∙ sym (replies_placed (whole_from config before es))
-
--- what is sent with inputs, and with others after them
-sends_split : (config : GatewayConfig) (before : List Event) (inputs others : List SessionInput)
-    → map packet_of (turns (inputs ++ others)) ≡ sent_with_octets config before (events_through (inputs ++ others))
-    → (map packet_of (turns inputs) ≡ sent_with_octets config before (events_through inputs))
-    × (map packet_of (turns others)
-    ≡ sent_with_octets config (before ++ events_through inputs) (events_through others))
-sends_split config before inputs others e =
-    let left : map packet_of (turns inputs) ++ map packet_of (turns others) ≡ map packet_of (turns (inputs ++ others)) =
-    sym (map-append packet_of (turns inputs) (turns others))
-    ∙ ap (map packet_of) (sym (flat_map-append turns_of inputs others)) in
-    let right = ap (sent_with_octets config before) (flat_map-append events_in inputs others)
-    ∙ given_by-append sent_with config before (events_through inputs) (events_through others) in
-    split_same (map packet_of (turns inputs)) (map packet_of (turns others))
-    (sent_with_octets config before (events_through inputs))
-    (sent_with_octets config (before ++ events_through inputs) (events_through others)) (left ∙ e ∙ right)
-    (length-map (turns inputs) packet_of ∙ sym (inputs_octets inputs)
-    ∙ sym (sent_with-length config before (events_through inputs)))
-
--- sends of packets, and what they are cut into
-sent_of_sends : (b : TapeState) (ps : List (ℕ × List ℕ)) (acts : List Act)
-    → sent_in (map (sends_at b) ps ++ acts) ≡ ps ++ sent_in acts
-sent_of_sends b [] acts = refl
-sent_of_sends b (p ∷ ps) acts = ap (λ (qs : List (ℕ × List ℕ)). p ∷ qs) (sent_of_sends b ps acts)
-
--- .. with no answer
-no_answers : (b : TapeState) (ps : List (ℕ × List ℕ)) (acts : List Act)
-    → answers_in (map (sends_at b) ps ++ acts) ≡ answers_in acts
-no_answers b [] acts = refl
-no_answers b (p ∷ ps) acts = no_answers b ps acts
-
--- where the tape had not ended at acts, it had not at the last of them
-going_behind : (xs ys : List Act) → AllByRecursion IsGoing (xs ++ ys) → AllByRecursion IsGoing ys
-going_behind [] ys h = h
-going_behind (x ∷ xs) ys h = going_behind xs ys h.1
-
--- what the tape had taken at the last of acts, by those behind one of them
-taken_behind : (taken : Option (List ℕ)) (xs : List Act) (y : Act) (ys : List Act)
-    → taken_at_last taken (xs ++ y ∷ ys) ≡ taken_at_last (had_taken y) ys
-taken_behind taken [] y ys = refl
-taken_behind taken (x ∷ xs) y ys = taken_behind (had_taken x) xs y ys
-
--- at each of these sends the tape was the same
-taken_of_sends : (taken : Option (List ℕ)) (b : TapeState) (p : ℕ × List ℕ) (ps : List (ℕ × List ℕ))
-    → taken_at_last taken (map (sends_at b) (p ∷ ps)) ≡ b.taken
-taken_of_sends taken b p [] = refl
-taken_of_sends taken b p (q ∷ ps) = taken_of_sends b.taken b q ps
-
--- .. and at the next act behind some of them
-next_of_sends : (taken : Option (List ℕ)) (b : TapeState) (ps : List (ℕ × List ℕ)) (acts : List Act)
-    → taken_at_next (map (sends_at b) ps ++ answers_at b ∷ acts) taken ≡ b.taken
-next_of_sends taken b [] acts = refl
-next_of_sends taken b (p ∷ ps) acts = refl
-
--- the acts for an input whose packets are held
-held_acts : (holds : Bool) (b : TapeState) (input : SessionInput) (rest : List Act) → HoldsPackets holds input
-    → acts_for holds b input ++ rest ≡ map (sends_at b) (packets_of (turns_of input)) ++ answers_at b ∷ rest
-held_acts holds b input rest held =
-    rw held (append_assoc (map (sends_at b) (packets_of (turns_of input))) (answers_at b ∷ []) rest)
-
--- acts that are cut among sends, or behind them
-abbrev InSends : TapeState → List (ℕ × List ℕ) → List Act → List Act → List Act → Type 0
-InSends b ps acts later tail = (part : List (ℕ × List ℕ)) × (unsent : List (ℕ × List ℕ)) × (ps ≡ part ++ unsent)
-    × (acts ≡ map (sends_at b) part) × (later ≡ map (sends_at b) unsent ++ tail)
-
-abbrev BehindSends : TapeState → List (ℕ × List ℕ) → List Act → List Act → List Act → Type 0
-BehindSends b ps acts later tail = (act : Act) × (more : List Act) × (acts ≡ map (sends_at b) ps ++ act ∷ more)
-    × (act ∷ (more ++ later) ≡ tail)
-
--- each cut is one or the other
-cut_sends : (b : TapeState) (ps : List (ℕ × List ℕ)) (acts later tail : List Act)
-    → acts ++ later ≡ map (sends_at b) ps ++ tail → InSends b ps acts later tail ⊎ BehindSends b ps acts later tail
-cut_sends b ps [] later tail e = inl ([], ps, refl, refl, e)
-cut_sends b [] (x ∷ acts) later tail e = inr (x, acts, refl, e)
-cut_sends b (p ∷ ps) (x ∷ acts) later tail e =
-    let head : x ≡ sends_at b p = cc e in
-    elim (cut_sends b ps acts later tail (cc e)) [
-      | inl c ↦ inl (p ∷ c.0, c.1, ap (λ (qs : List (ℕ × List ℕ)). p ∷ qs) c.2, rw (head, c.3) refl, c.4)
-      | inr c ↦ inr (c.0, c.1, rw (head, c.2) refl, c.3)
-    ]
-
--- the packets that were sent of an input, which is on the tape, and those that were not
-record Sending (others : List SessionInput) (fresh : List Event) (next : TapeState) (part : List (ℕ × List ℕ))
+-- the next input, all of which the tape had when it was told that it is answered
+record Answering (More : Known) (answered others : List SessionInput) (fresh : List Event) (next : TapeState)
+    (high : Gone)
     : Type 0 where
   input : SessionInput
   rest : List SessionInput
   others_are : others ≡ input ∷ rest
   fresh_are : fresh ≡ events_in input
   going : next.ended ≡ false
-  unsent : List (ℕ × List ℕ)
-  all : packets_of (turns_of input) ≡ part ++ unsent
+  most : More (answered ++ input ∷ []) high
 
--- Where the acts for inputs are cut: behind the answers of some, where the tape is so, and in the acts for the next
--- one, where it is so then.
-record CutAt (tape tape' : TapeState) (inputs : List SessionInput) (acts later : List Act) : Type 0 where
+-- Where the acts for inputs are cut: behind some of the inputs, where the tape is so, and within the next one. What
+-- had gone out is between what answers the first, and no more, or what answers the next one too, if that is on the
+-- tape.
+record CutAt (All More : Known) (tape tape' : TapeState) (begun end : Gone) (inputs : List SessionInput)
+    (acts later : List Act)
+    : Type 0 where
   answered : List SessionInput
   others : List SessionInput
   inputs_are : inputs ≡ answered ++ others
@@ -159,22 +54,158 @@ record CutAt (tape tape' : TapeState) (inputs : List SessionInput) (acts later :
   fresh : List Event
   of_next : AreOfNext fresh others
   more : Recorded between next fresh
-  part : List (ℕ × List ℕ)
-  sent : sent_in acts ≡ packets_of (turns answered) ++ part
-  answers : answers_in acts ≡ length answered
-  at_next : taken_at_next later tape'.taken ≡ next.taken
-  at_last : ((part ≡ []) × (taken_at_last tape.taken acts ≡ between.taken))
-      ⊎ (Sending others fresh next part × (taken_at_last tape.taken acts ≡ next.taken))
+  low : Gone
+  low_is : at_last had_gone begun acts ≡ low
+  all : All answered low
+  high : Gone
+  high_is : at_next had_gone later end ≡ high
+  taken_next : at_next had_taken later tape'.taken ≡ next.taken
+  so : ((high.sent ≡ low.sent) × (high.written ≡ low.written)
+      × (at_last had_taken tape.taken acts ≡ between.taken))
+      ⊎ (Answering More answered others fresh next high × (at_last had_taken tape.taken acts ≡ next.taken))
 
--- no event is of the next input
-none_of_next : (inputs : List SessionInput) → AreOfNext [] inputs
-none_of_next [] = refl
-none_of_next (input ∷ inputs) = (events_in input, refl)
+-- one input before
+cut_behind : {All More : Known} {tape b tape' : TapeState} {begun end gone gone' : Gone} (gateway : Gateway)
+    (input : SessionInput) (inputs : List SessionInput) (act : Act) (acts later : List Act)
+    → Recorded tape b (events_in input)
+    → CutAt (λ first. All (input ∷ first)) (λ first. More (input ∷ first)) b tape' gone' end inputs (act ∷ acts) later
+    → CutAt All More tape tape' begun end (input ∷ inputs)
+    (keeps_at tape gateway gone ∷ answers_at b gone' ∷ act ∷ acts) later
+cut_behind {All} {More} {tape} {b} gateway input inputs act acts later recorded c = record {
+  answered = input ∷ c.answered;
+  others = c.others;
+  inputs_are = ap (λ (is : List SessionInput). input ∷ is) c.inputs_are;
+  between = c.between;
+  going = c.going;
+  recorded = recorded_join tape b c.between (events_in input) (events_through c.answered) recorded c.recorded;
+  next = c.next;
+  fresh = c.fresh;
+  of_next = c.of_next;
+  more = c.more;
+  low = c.low;
+  low_is = c.low_is;
+  all = c.all;
+  high = c.high;
+  high_is = c.high_is;
+  taken_next = c.taken_next;
+  so = elim c.so [
+    | inl q ↦ inl q
+    | inr q ↦ inr (
+      record {
+        input = q.0.input;
+        rest = q.0.rest;
+        others_are = q.0.others_are;
+        fresh_are = q.0.fresh_are;
+        going = q.0.going;
+        most = q.0.most;
+      },
+      q.1,
+    )
+  ];
+}
 
--- nothing was done
-cut_first : (tape tape' : TapeState) (inputs : List SessionInput) (later : List Act) → tape.ended ≡ false
-    → taken_at_next later tape'.taken ≡ tape.taken → CutAt tape tape' inputs [] later
-cut_first tape tape' inputs later going at_next = record {
+-- the acts are cut when the tape was shown a gateway, before the input is on it
+cut_before : {All More : Known} {tape b tape' : TapeState} {begun end gone gone' : Gone} (gateway : Gateway)
+    (input : SessionInput) (inputs : List SessionInput) (rest : List Act) → tape.ended ≡ false
+    → Recorded tape b (events_in input) → All [] gone → gone' ≡ gone
+    → CutAt All More tape tape' begun end (input ∷ inputs) (keeps_at tape gateway gone ∷ [])
+    (answers_at b gone' ∷ rest)
+cut_before {tape = tape} {b = b} {gone = gone} {gone' = gone'} gateway input inputs rest going recorded all same = record {
+  answered = [];
+  others = input ∷ inputs;
+  inputs_are = refl;
+  between = tape;
+  going = going;
+  recorded = recorded_none tape;
+  next = b;
+  fresh = events_in input;
+  of_next = ([], sym (append-nil (events_in input)));
+  more = recorded;
+  low = gone;
+  low_is = refl;
+  all = all;
+  high = gone';
+  high_is = refl;
+  taken_next = refl;
+  so = inl (ap (λ (g : Gone). g.sent) same, ap (λ (g : Gone). g.written) same, refl);
+}
+
+-- .. or when it was told that the input is answered
+cut_within : {All More : Known} {tape b tape' : TapeState} {begun end gone gone' high : Gone} (gateway : Gateway)
+    (input : SessionInput) (inputs : List SessionInput) (later : List Act) → tape.ended ≡ false → b.ended ≡ false
+    → Recorded tape b (events_in input) → All [] gone → gone' ≡ gone → More (input ∷ []) high
+    → at_next had_gone later end ≡ high → at_next had_taken later tape'.taken ≡ b.taken
+    → CutAt All More tape tape' begun end (input ∷ inputs) (keeps_at tape gateway gone ∷ answers_at b gone' ∷ []) later
+cut_within {All = All} {tape = tape} {b = b} {gone' = gone'} {high = high} gateway input inputs later going on recorded
+    all same most high_is taken =
+    record {
+      answered = [];
+      others = input ∷ inputs;
+      inputs_are = refl;
+      between = tape;
+      going = going;
+      recorded = recorded_none tape;
+      next = b;
+      fresh = events_in input;
+      of_next = ([], sym (append-nil (events_in input)));
+      more = recorded;
+      low = gone';
+      low_is = refl;
+      all = rw same all;
+      high = high;
+      high_is = high_is;
+      taken_next = taken;
+      so = inr (
+        record { input = input; rest = inputs; others_are = refl; fresh_are = refl; going = on; most = most },
+        refl,
+      );
+    }
+
+-- acts for inputs of which there are some, wherever they are cut
+cut_at : (holds : Bool) (Stood : List SessionInput → Gateway → Gone → Type 0) (All More : Known)
+    (tape tape' : TapeState) (begun end : Gone) (inputs : List SessionInput) (x : Act)
+    (acts later all : List Act) → tape.ended ≡ false → AllByRecursion (HoldsPackets holds) inputs
+    → ((first : List SessionInput) (gateway : Gateway) (gone : Gone) → Stood first gateway gone → All first gone)
+    → ((first : List SessionInput) (gone : Gone) → All first gone → More first gone) → More inputs end
+    → AreActs holds Stood tape tape' inputs all → x ∷ (acts ++ later) ≡ all → AllByRecursion IsGoing (x ∷ acts)
+    → CutAt All More tape tape' begun end inputs (x ∷ acts) later
+cut_at holds Stood All More tape tape' begun end [] x acts later all going held f g last are e h = absurd (cc (e, are.1))
+cut_at holds Stood All More tape tape' begun end (input ∷ inputs) x [] later all going held f g last are e h =
+    let both : x ∷ later ≡ keeps_at tape are.0 are.2 ∷ answers_at are.1 are.3 ∷ are.4 = e ∙ are.8 in
+    let head : x ≡ keeps_at tape are.0 are.2 = cc both in
+    let tails : later ≡ answers_at are.1 are.3 ∷ are.4 = cc both in
+    rw (head, tails) (cut_before are.0 input inputs are.4 going are.6 (f [] are.0 are.2 are.5) (are.7 held.0))
+cut_at holds Stood All More tape tape' begun end (input ∷ []) x (y ∷ []) later all going held f g last are e h =
+    let both : x ∷ y ∷ later ≡ keeps_at tape are.0 are.2 ∷ answers_at are.1 are.3 ∷ are.4 = e ∙ are.8 in
+    let head : x ≡ keeps_at tape are.0 are.2 = cc both in
+    let second : y ≡ answers_at are.1 are.3 = cc both in
+    let none : later ≡ are.4 = cc both in
+    rw (head, second, none, are.9.1) (cut_within are.0 input [] [] going (rw second at h.1.0) are.6
+    (f [] are.0 are.2 are.5) (are.7 held.0) last refl (ap (λ (t : TapeState). t.taken) are.9.0))
+cut_at holds Stood All More tape tape' begun end (input ∷ i ∷ inputs) x (y ∷ []) later all going held f g last are e h =
+    let b = are.9 in
+    let both : x ∷ y ∷ later ≡ keeps_at tape are.0 are.2 ∷ answers_at are.1 are.3 ∷ are.4 = e ∙ are.8 in
+    let head : x ≡ keeps_at tape are.0 are.2 = cc both in
+    let second : y ≡ answers_at are.1 are.3 = cc both in
+    let others : later ≡ keeps_at are.1 b.0 b.2 ∷ answers_at b.1 b.3 ∷ b.4 = cc (both, b.8) in
+    rw (head, second, others) (cut_within are.0 input (i ∷ inputs) _ going (rw second at h.1.0) are.6
+    (f [] are.0 are.2 are.5) (are.7 held.0) (g (input ∷ []) b.2 (f (input ∷ []) b.0 b.2 b.5)) refl refl)
+cut_at holds Stood All More tape tape' begun end (input ∷ inputs) x (y ∷ z ∷ acts) later all going held f g last are e h =
+    let both : x ∷ y ∷ z ∷ (acts ++ later) ≡ keeps_at tape are.0 are.2 ∷ answers_at are.1 are.3 ∷ are.4 = e ∙ are.8 in
+    let head : x ≡ keeps_at tape are.0 are.2 = cc both in
+    let second : y ≡ answers_at are.1 are.3 = cc both in
+    let others : z ∷ (acts ++ later) ≡ are.4 = cc both in
+    rw (head, second) (cut_behind are.0 input inputs z acts later are.6
+    (cut_at holds (λ first. Stood (input ∷ first)) (λ first. All (input ∷ first)) (λ first. More (input ∷ first))
+    are.1 tape' are.3 end inputs z acts later are.4 (rw second at h.1.0) held.1 (λ first. f (input ∷ first))
+    (λ first. g (input ∷ first)) last are.9 others h.1.1))
+
+-- they are cut before the first of them
+cut_first : {All More : Known} {tape tape' : TapeState} {end high : Gone} (inputs : List SessionInput)
+    (later : List Act) → tape.ended ≡ false → All [] nothing_gone → at_next had_gone later end ≡ high
+    → at_next had_taken later tape'.taken ≡ tape.taken → high.sent ≡ Some [] → high.written ≡ Some []
+    → CutAt All More tape tape' nothing_gone end inputs [] later
+cut_first {tape = tape} {high = high} inputs later going all high_is taken sent wrote = record {
   answered = [];
   others = inputs;
   inputs_are = refl;
@@ -185,103 +216,33 @@ cut_first tape tape' inputs later going at_next = record {
   fresh = [];
   of_next = none_of_next inputs;
   more = recorded_none tape;
-  part = [];
-  sent = refl;
-  answers = refl;
-  at_next = at_next;
-  at_last = inl (refl, refl);
+  low = nothing_gone;
+  low_is = refl;
+  all = all;
+  high = high;
+  high_is = high_is;
+  taken_next = taken;
+  so = inl (sent, wrote, refl);
 }
 
-module _ (tape b tape' : TapeState) (gateway : Gateway) (input : SessionInput)
-    (inputs : List SessionInput) (going : tape.ended ≡ false) (recorded : Recorded tape b (events_in input))
-  where
-    -- whether packets were sent or not
-    at_sends : (part unsent : List (ℕ × List ℕ)) → packets_of (turns_of input) ≡ part ++ unsent
-        → AllByRecursion IsGoing (map (sends_at b) part)
-        → ((part ≡ []) × (taken_at_last tape.taken (map (sends_at b) part) ≡ tape.taken))
-        ⊎ (Sending (input ∷ inputs) (events_in input) b part
-        × (taken_at_last tape.taken (map (sends_at b) part) ≡ b.taken))
-    at_sends [] unsent all h = inl (refl, refl)
-    at_sends (p ∷ part) unsent all h = inr (grind (arith, taken_of_sends tape.taken b p part))
-
-    -- the acts are cut in the packets of an input
-    cut_in : (acts later rest : List Act) (part unsent : List (ℕ × List ℕ))
-        → packets_of (turns_of input) ≡ part ++ unsent → acts ≡ map (sends_at b) part
-        → later ≡ map (sends_at b) unsent ++ answers_at b ∷ rest
-        → AllByRecursion IsGoing acts → CutAt tape tape' (input ∷ inputs) (keeps_at tape gateway ∷ acts) later
-    cut_in acts later rest part unsent all acts_are later_are h =
-        let behind_none = sym (append-nil (map (sends_at b) part)) in
-        record {
-          answered = [];
-          others = input ∷ inputs;
-          inputs_are = refl;
-          between = tape;
-          going = going;
-          recorded = recorded_none tape;
-          next = b;
-          fresh = events_in input;
-          of_next = ([], sym (append-nil (events_in input)));
-          more = recorded;
-          part = part;
-          sent = ap sent_in (acts_are ∙ behind_none) ∙ sent_of_sends b part [] ∙ append-nil part;
-          answers = ap answers_in (acts_are ∙ behind_none) ∙ no_answers b part [];
-          at_next = rw later_are (next_of_sends tape'.taken b unsent rest);
-          at_last = rw acts_are (at_sends part unsent all (rw acts_are at h));
-        }
-
-    -- .. in those of an input after it
-    cut_behind : (acts more later : List Act)
-        → acts ≡ map (sends_at b) (packets_of (turns_of input)) ++ answers_at b ∷ more
-        → CutAt b tape' inputs more later
-        → CutAt tape tape' (input ∷ inputs) (keeps_at tape gateway ∷ acts) later
-    cut_behind acts more later are c =
-        let ps = packets_of (turns_of input) in
-        record {
-          answered = input ∷ c.answered;
-          others = c.others;
-          inputs_are = ap (λ (is : List SessionInput). input ∷ is) c.inputs_are;
-          between = c.between;
-          going = c.going;
-          recorded = recorded_join tape b c.between (events_in input) (events_through c.answered) recorded c.recorded;
-          next = c.next;
-          fresh = c.fresh;
-          of_next = c.of_next;
-          more = c.more;
-          part = c.part;
-          sent = ap sent_in are ∙ sent_of_sends b ps (answers_at b ∷ more)
-              ∙ ap (λ (qs : List (ℕ × List ℕ)). ps ++ qs) c.sent
-              ∙ sym (append_assoc ps (packets_of (turns c.answered)) c.part)
-              ∙ ap (λ (qs : List (ℕ × List ℕ)). qs ++ c.part)
-              (sym (flat_map-append (λ (t : Turn). packet_in t.packet) (turns_of input) (turns c.answered)));
-          answers = ap answers_in are ∙ no_answers b ps (answers_at b ∷ more) ∙ ap suc c.answers;
-          at_next = c.at_next;
-          at_last = rw (are, taken_behind tape.taken (map (sends_at b) ps) (answers_at b) more) c.at_last;
-        }
-
 -- acts for inputs, wherever they are cut
-cut_at : (holds : Bool) (Stands : List Event → Gateway → Type 0) (tape tape' : TapeState) (inputs : List SessionInput)
-    (acts later all : List Act) → tape.ended ≡ false → AllByRecursion (HoldsPackets holds) inputs
-    → AreActs holds Stands tape tape' inputs all → acts ++ later ≡ all → AllByRecursion IsGoing acts
-    → CutAt tape tape' inputs acts later
-cut_at holds Stands tape tape' [] [] later all going held are e h = search (rules, cut_first)
-cut_at holds Stands tape tape' [] (x ∷ acts) later all going held are e h = absurd (cc (e, are.1))
-cut_at holds Stands tape tape' (input ∷ inputs) [] later all going held are e h = search (rules, cut_first)
-cut_at holds Stands tape tape' (input ∷ inputs) (x ∷ acts) later all going held are e h =
-    let b = are.1 in
-    let ps = packets_of (turns_of input) in
-    let both : x ∷ (acts ++ later) ≡ keeps_at tape are.0 ∷ (acts_for holds b input ++ are.2) = e ∙ are.5 in
-    let head : x ≡ keeps_at tape are.0 = cc both in
-    let tails : acts ++ later ≡ acts_for holds b input ++ are.2 = cc both in
-    rw head (elim (cut_sends b ps acts later (answers_at b ∷ are.2) (tails ∙ held_acts holds b input are.2 held.0)) [
-      | inl c ↦ cut_in tape b tape' are.0 input inputs going are.4 acts later are.2 c.0 c.1 c.2 c.3 c.4 h.1
-      | inr c ↦
-          let answers : c.0 ≡ answers_at b = cc c.3 in
-          let acts_are : acts ≡ map (sends_at b) ps ++ answers_at b ∷ c.1 = rw answers at c.2 in
-          let behind = going_behind (map (sends_at b) ps) (answers_at b ∷ c.1) (rw acts_are at h.1) in
-          cut_behind tape b tape' are.0 input inputs going are.4 acts c.1 later acts_are
-          (cut_at holds (λ happened. Stands (events_in input ++ happened)) b tape' inputs c.1 later are.2 behind.0
-          held.1 are.6 (cc c.3) behind.1)
-    ])
+cut_any : (holds : Bool) (Stood : List SessionInput → Gateway → Gone → Type 0) (All More : Known)
+    (tape tape' : TapeState) (end : Gone) (inputs : List SessionInput) (acts later all : List Act) → tape.ended ≡ false
+    → AllByRecursion (HoldsPackets holds) inputs
+    → ((first : List SessionInput) (gateway : Gateway) (gone : Gone) → Stood first gateway gone → All first gone)
+    → ((first : List SessionInput) (gone : Gone) → All first gone → More first gone) → More inputs end
+    → All [] nothing_gone
+    → ((gone : Gone) → More [] gone → (gone.sent ≡ Some []) × (gone.written ≡ Some []))
+    → AreActs holds Stood tape tape' inputs all → acts ++ later ≡ all → AllByRecursion IsGoing acts
+    → CutAt All More tape tape' nothing_gone end inputs acts later
+cut_any holds Stood All More tape tape' end [] [] later all going held f g last first none are e h =
+    let nothing = none end last in
+    rw (e ∙ are.1) (cut_first [] [] going first refl (ap (λ (t : TapeState). t.taken) are.0) nothing.0 nothing.1)
+cut_any holds Stood All More tape tape' end (input ∷ inputs) [] later all going held f g last first none are e h =
+    let nothing = none are.2 (g [] are.2 (f [] are.0 are.2 are.5)) in
+    rw (e ∙ are.8) (cut_first (input ∷ inputs) _ going first refl refl nothing.0 nothing.1)
+cut_any holds Stood All More tape tape' end inputs (x ∷ acts) later all going held f g last first none are e h =
+    cut_at holds Stood All More tape tape' nothing_gone end inputs x acts later all going held f g last are e h
 
 -- events of the next input are the first of those that are
 of_next_first : (es first later : List Event) (others : List SessionInput) → AreOfNext es others → es ≡ first ++ later
@@ -318,26 +279,153 @@ none_first : (last later : List Event) → [] ≡ last ++ later → last ≡ []
 none_first [] later e = refl
 none_first (x ∷ last) later e = absurd (cc e)
 
--- however a session is cut off, what it did is the beginning of what answers its log
+-- What had gone out behind inputs: these packets, but for those whose sends failed, and the octets but for the last
+-- ones.
+record WentOut (config : GatewayConfig) (before : List Event) (inputs : List SessionInput) (gone : Gone)
+    (rest : List ℕ)
+    : Type 0 where
+  took : List (ℕ × List ℕ)
+  sent_is : gone.sent ≡ Some took
+  failed : ℕ
+  leaves : LeavesOut failed took (packets_for config before (events_through inputs))
+  octets : List ℕ
+  written_is : gone.written ≡ Some octets
+  all : octets ++ rest ≡ written config before inputs
+
+-- what grew from nothing is what it grew by
+extends_none : {X : Type 0} (new : Option (List X)) (more : List X) → Extends (Some []) new more → new ≡ Some more
+extends_none None more p = absurd p
+extends_none {X} (Some xs) more p = ap (λ (ys : List X). Some ys) p
+
+appends_none : (new : Option (List ℕ)) (more : List ℕ) → Appends (Some []) new more → new ≡ Some more
+appends_none None more p = absurd p
+appends_none (Some xs) more p = ap (λ (ys : List ℕ). Some ys) p
+
+-- what had gone out of a session that had sent nothing, by the turns that it went through and what it wrote
+went_out : {s s' : SessionState} {inputs : List SessionInput} {gone : Gone} (config : GatewayConfig)
+    (before : List Event) (first rest : List ℕ) → HasHistory config s.gateway before → s.ports.taken ≡ Some []
+    → s.held ≡ [] → TurnsTrace s s' (turns inputs) (events_through inputs) → s'.ports.taken ≡ gone.sent
+    → s'.held ≡ s.held → Appends (Some []) gone.written first → first ++ rest ≡ written config before inputs
+    → WentOut config before inputs gone rest
+went_out {s = s} {s' = s'} {gone = gone} config before first rest at none held goes sent still wrote all =
+    let packets = (goes.hears config before at).packets in
+    record {
+      took = goes.trades.took;
+      sent_is = sym sent ∙ extends_none s'.ports.taken goes.trades.took (rw none at goes.trades.takes);
+      failed = goes.trades.failed_sends;
+      leaves = rw (still, held, append-nil) at packets;
+      octets = first;
+      written_is = appends_none gone.written first wrote;
+      all = all;
+    }
+
+-- a list that is between two that are equal is both
+is_both : {X : Type 0} {low high : Option (List X)} {xs : List X} → (b : IsBetween low high xs) → high ≡ low
+    → b.more ≡ []
+is_both {X} {xs = xs} b same =
+    let e : Some (xs ++ b.rest) ≡ Some b.first = sym b.high_is ∙ same ∙ b.low_is in
+    let these : xs ++ b.rest ≡ b.first = cc e in
+    nil_from_length b.more (omega (
+      arith,
+      ap length these,
+      length-append xs b.rest,
+      ap length b.xs_are,
+      length-append b.first b.more,
+    ))
+
+-- nothing goes out of a session without inputs
+none_went : (config : GatewayConfig) (before : List Event) (gone : Gone) (rest : List ℕ)
+    → WentOut config before [] gone rest → (gone.sent ≡ Some []) × (gone.written ≡ Some [])
+unfolding given_by
+none_went config before gone rest w =
+    let none : w.took ≡ [] = w.leaves.1 in
+    let empty : w.octets ≡ [] = nil_from_length w.octets (omega (arith, ap length w.all, length-append w.octets rest)) in
+    (w.sent_is ∙ ap (λ (ps : List (ℕ × List ℕ)). Some ps) none, w.written_is ∙ ap (λ (xs : List ℕ). Some xs) empty)
+
+-- nothing has gone out before the first input
+went_nothing : (config : GatewayConfig) (before : List Event) → WentOut config before [] nothing_gone []
+unfolding given_by
+went_nothing config before = record {
+  took = [];
+  sent_is = refl;
+  failed = 0;
+  leaves = (refl, refl);
+  octets = [];
+  written_is = refl;
+  all = refl;
+}
+
+-- the next input is answered, by the first of what answers it at least
+answers_next : (config : GatewayConfig) (before : List Event) {answered others : List SessionInput}
+    {fresh : List Event} {next : TapeState} {high : Gone} (sent : List (ℕ × List ℕ)) (out part : List ℕ)
+    (later : List (ℕ × List ℕ)) (behind : List ℕ)
+    → (x : Answering (λ inputs gone. (rest : List ℕ) × WentOut config before inputs gone rest) answered others fresh
+    next high)
+    → high.sent ≡ Some (sent ++ later) → high.written ≡ Some (out ++ behind)
+    → out ≡ written config before answered ++ part → AnswersNext config before answered others fresh sent part
+answers_next config before {answered = answered} sent out part later behind x sends writes out_is =
+    let most = x.most.1 in
+    let took : most.took ≡ sent ++ later = cc (sym most.sent_is ∙ sends) in
+    let octets : most.octets ≡ out ++ behind = cc (sym most.written_is ∙ writes) in
+    let events_are : events_through (answered ++ x.input ∷ []) ≡ events_through answered ++ events_in x.input =
+    flat_map-append events_in answered (x.input ∷ [])
+    ∙ ap (λ (es : List Event). events_through answered ++ es) (append-nil (events_in x.input)) in
+    let before_it = written config before answered in
+    let answer = answer_to config (before ++ events_through answered) x.input in
+    let all : written config before (answered ++ x.input ∷ []) ≡ before_it ++ answer =
+    through-append answer_to config before answered (x.input ∷ [])
+    ∙ ap (λ (xs : List ℕ). before_it ++ xs) (append-nil answer) in
+    let whole : before_it ++ (part ++ (behind ++ x.most.0)) ≡ before_it ++ answer =
+    sym (append_assoc before_it part (behind ++ x.most.0))
+    ∙ ap (λ (xs : List ℕ). xs ++ (behind ++ x.most.0)) (sym out_is)
+    ∙ sym (append_assoc out behind x.most.0) ∙ ap (λ (xs : List ℕ). xs ++ x.most.0) (sym octets) ∙ most.all ∙ all in
+    record {
+      next = x.input;
+      later = x.rest;
+      others_are = x.others_are;
+      last_is = x.fresh_are;
+      unsent = later;
+      failed = most.failed;
+      packets_are = rw (took, events_are) at most.leaves;
+      rest = behind ++ x.most.0;
+      octets_are = append_cancel_left before_it (part ++ (behind ++ x.most.0)) answer whole;
+    }
+
+-- however a session is cut off, what it gave out is the beginning of what answers its log
 pub cut_sessions : CutSessionsAnswerTheirLogs
-cut_sessions config before gateway acts log records ending at_first cut reads =
+cut_sessions config before gateway log sent out records ending at_first cut reads =
     let p = cut.follows in
     let stood : HasHistory config cut.session.gateway before = rw (cut.gateway_is) at_first in
-    let told : acts ++ cut.later ≡ p.logs.0 = rw (cut.all) at (p.logs.1) in
-    let c = cut_at cut.session.holds (StandsBehind cut.session.gateway) new_tape cut.tape' cut.inputs acts cut.later
-    p.logs.0 refl cut.held p.logs.2 told cut.going in
+    let told : cut.acts ++ cut.later ≡ p.logs.0 = rw (cut.all) at (p.logs.1) in
+    let wrote = cut.took config before at_first in
+    let end : Gone = record { sent = cut.session'.ports.taken; written = cut.out' } in
+    let last : WentOut config before cut.inputs end wrote.rest = went_out config before wrote.written wrote.rest stood
+    cut.none_sent cut.none_held p.goes refl p.still wrote.appended (sym wrote.whole) in
+    let c = cut_any cut.session.holds (StandsBehind written (Appends (Some [])) cut.session)
+    (λ inputs gone. WentOut config before inputs gone [])
+    (λ inputs gone. (rest : List ℕ) × WentOut config before inputs gone rest) new_tape cut.tape' end cut.inputs cut.acts
+    cut.later p.logs.0 refl cut.held
+    (λ first now gone q. went_out config before (written config before first) [] stood cut.none_sent cut.none_held
+    q.goes q.sent_is q.still (q.had config before stood) (append-nil (written config before first)))
+    (λ first gone w. ([], w)) (wrote.rest, last) (went_nothing config before)
+    (λ gone w. none_went config before gone w.0 w.1) p.logs.2 told cut.going in
+    let sent_low = ap (λ (g : Gone). g.sent) c.low_is in
+    let sent_high = ap (λ (g : Gone). g.sent) c.high_is in
+    let out_low = ap (λ (g : Gone). g.written) c.low_is in
+    let out_high = ap (λ (g : Gone). g.written) c.high_is in
+    let first : cut.sends.first ≡ c.all.took = cc (sym cut.sends.low_is ∙ sent_low ∙ c.all.sent_is) in
+    let octets : cut.writes.first ≡ c.all.octets = cc (sym cut.writes.low_is ∙ out_low ∙ c.all.written_is) in
+    let answers : c.all.octets ≡ written config before c.answered = sym (append-nil c.all.octets) ∙ c.all.all in
+    let out_is : out ≡ written config before c.answered ++ cut.writes.more =
+    cut.writes.xs_are ∙ ap (λ (xs : List ℕ). xs ++ cut.writes.more) (octets ∙ answers) in
+    let sent_are : sent ≡ c.all.took ++ cut.sends.more =
+    cut.sends.xs_are ∙ ap (λ (ps : List (ℕ × List ℕ)). ps ++ cut.sends.more) first in
     let es = events_through c.answered in
-    let sends = sends_split config before c.answered c.others
-    (rw (c.inputs_are) at ((p.goes.hears config before stood).sends)) in
-    let sent = c.sent
-    ∙ ap (λ (ps : List (ℕ × List ℕ)). ps ++ c.part) (packets_sent config before es (turns c.answered) sends.0) in
-    let answers = ap (written config before) c.inputs_are
-    ∙ through-append answer_to config before c.answered c.others in
-    let known' = sym c.at_next ∙ cut.at_next in
-    elim c.at_last [
+    let known' = sym c.taken_next ∙ cut.logged.high_is in
+    elim c.so [
       | inl at ↦
-          let l = logged_events c.between c.next es c.fresh cut.had cut.fresh cut.rest log records ending c.recorded
-          c.going c.more (sym at.1 ∙ cut.at_last) cut.octets_are known' reads in
+          let l = logged_events c.between c.next es c.fresh cut.logged.first cut.logged.more cut.logged.rest log records
+          ending c.recorded c.going c.more (sym at.2 ∙ cut.logged.low_is) cut.logged.xs_are known' reads in
           record {
             answered = c.answered;
             others = c.others;
@@ -345,23 +433,24 @@ cut_sessions config before gateway acts log records ending at_first cut reads =
             last = l.0;
             logged_are = l.2;
             of_next = of_next_first c.fresh l.0 l.1 c.others c.of_next l.3;
-            sent = [];
-            unsent = packets_for config (before ++ es) l.0;
-            sent_are = rw (at.0) at sent;
-            all = refl;
-            answers = c.answers;
-            unanswered = written config (before ++ es) c.others;
-            written_are = answers;
+            first = c.all.took;
+            more = cut.sends.more;
+            sent_are = sent_are;
+            failed = c.all.failed;
+            first_are = c.all.leaves;
+            part = cut.writes.more;
+            out_is = out_is;
+            rest_is = inl (
+              is_both cut.sends (sent_high ∙ at.0 ∙ sym sent_low),
+              is_both cut.writes (out_high ∙ at.1 ∙ sym out_low),
+            );
           }
       | inr at ↦
           let x = at.0 in
           let both = recorded_join new_tape c.between c.next es c.fresh c.recorded c.more in
-          let l = logged_events c.next c.next (es ++ c.fresh) [] cut.had cut.fresh cut.rest log records ending both
-          x.going (recorded_none c.next) (sym at.1 ∙ cut.at_last) cut.octets_are known' reads in
-          let one = (sends_split config (before ++ es) (x.input ∷ []) x.rest (rw (x.others_are) at sends.1)).0 in
-          let packets = packets_sent config (before ++ es) (events_through (x.input ∷ [])) (turns (x.input ∷ [])) one in
-          let these : packets_of (turns_of x.input) ≡ packets_for config (before ++ es) (events_in x.input) =
-          rw (append-nil (turns_of x.input), append-nil (events_in x.input)) at packets in
+          let l = logged_events c.next c.next (es ++ c.fresh) [] cut.logged.first cut.logged.more cut.logged.rest log
+          records ending both x.going (recorded_none c.next) (sym at.1 ∙ cut.logged.low_is) cut.logged.xs_are known'
+          reads in
           record {
             answered = c.answered;
             others = c.others;
@@ -369,12 +458,14 @@ cut_sessions config before gateway acts log records ending at_first cut reads =
             last = c.fresh;
             logged_are = l.2 ∙ rw (none_first l.0 l.1 l.3) (append-nil (es ++ c.fresh));
             of_next = c.of_next;
-            sent = c.part;
-            unsent = x.unsent;
-            sent_are = sent;
-            all = ap (packets_for config (before ++ es)) x.fresh_are ∙ sym these ∙ x.all;
-            answers = c.answers;
-            unanswered = written config (before ++ es) c.others;
-            written_are = answers;
+            first = c.all.took;
+            more = cut.sends.more;
+            sent_are = sent_are;
+            failed = c.all.failed;
+            first_are = c.all.leaves;
+            part = cut.writes.more;
+            out_is = out_is;
+            rest_is = inr (answers_next config before sent out cut.writes.more cut.sends.rest cut.writes.rest x
+                (sym sent_high ∙ cut.sends.high_is) (sym out_high ∙ cut.writes.high_is) out_is);
           }
     ]

@@ -147,7 +147,8 @@ at_records g t = state_of no_ports g t
 
 -- the totals of inputs are those of a session that had the replies to their records
 plain_totals : {g g' : Gateway} {t : Totals} {x y : TapeState} {inputs : List SessionInput}
-    → Follows (at_records g nothing_counted) (at_records g' t) x y inputs → Plain (turns inputs)
+    {put : GatewayConfig → List Event → List SessionInput → List ℕ} {Had : Option (List ℕ) → List ℕ → Type 0}
+    → Follows put Had (at_records g nothing_counted) (at_records g' t) x y inputs → Plain (turns inputs)
     → (config : GatewayConfig) (before : List Event) → HasHistory config g before
     → t ≡ run_totals (map input_record inputs) (replies_to config before (map input_record inputs))
 unfolding given_by dropped_for
@@ -163,8 +164,8 @@ plain_totals {inputs = inputs} d plain config before at =
     (up_to h.dropped (ap (count_by is_refusal) same)) (rw (received, sent) at d.goes.faults)
 
 -- a session went through records
-pub runs : {g g' : Gateway} {x y : TapeState} {s s' : SinkState} (t : Totals) (records : List Record)
-    → SessionTrace (written_by in_record) (at_records g nothing_counted) (at_records g' t) x y
+pub runs : {Had : Option (List ℕ) → List ℕ → Type 0} {g g' : Gateway} {x y : TapeState} {s s' : SinkState} (t : Totals) (records : List Record)
+    → SessionTrace (written_by in_record) Had (at_records g nothing_counted) (at_records g' t) x y
     (λ first. Appends s.taken s'.taken) records
     → RunsThrough g g' s s' t records
 runs t records p =
@@ -188,9 +189,9 @@ last_of (x ∷ []) h = ([], x, refl)
 last_of (x ∷ y ∷ xs) h = let l = last_of (y ∷ xs) (omega arith) in (x ∷ l.0, l.1, ap (λ zs. x ∷ zs) l.2)
 
 -- .. and a write failed when it had acted on the last one
-whole_until : {g g' : Gateway} {x y : TapeState} {s s' : SinkState} {t : Totals} (records : List Record)
+whole_until : {Had : Option (List ℕ) → List ℕ → Type 0} {g g' : Gateway} {x y : TapeState} {s s' : SinkState} {t : Totals} (records : List Record)
     → 0 < length records
-    → SessionTrace (written_by in_record) (at_records g nothing_counted) (at_records g' t) x y
+    → SessionTrace (written_by in_record) Had (at_records g nothing_counted) (at_records g' t) x y
     (AppendsBut 65536 s.taken s'.taken) records
     → RunsUntilWrite g g' s s' records
 whole_until records some p =
@@ -288,8 +289,8 @@ shown_plain inputs p seen = rw (each_events inputs p) at seen
 
 -- a session that was watched
 pub seen_plain : {W : Type 0} {shows : Shows W} {w w' : W} {g g' : Gateway} {t : Totals} {x y : TapeState}
-    {Took : List ℕ → List ℕ → Type 0} {records : List Record}
-    → WatchedTrace (written_by in_record) (at_records g nothing_counted) (at_records g' t) x y Took
+    {Had : Option (List ℕ) → List ℕ → Type 0} {Took : List ℕ → List ℕ → Type 0} {records : List Record}
+    → WatchedTrace (written_by in_record) Had (at_records g nothing_counted) (at_records g' t) x y Took
     (λ inputs. InputsShown shows g w w' inputs []) records
     → RecordsShown shows g w w' records []
 seen_plain p = rw (p.0.told_are) at (shown_plain p.0.inputs (plain_trades
@@ -297,8 +298,8 @@ seen_plain p = rw (p.0.told_are) at (shown_plain p.0.inputs (plain_trades
 
 -- the first records of those that were begun, which a watch was shown, and the events of the last one
 seen_first : {W : Type 0} {shows : Shows W} {w w' : W} {g g' : Gateway} {x y : TapeState} {t : Totals}
-    {Took : List ℕ → List ℕ → Type 0} (records : List Record) (first : List SessionInput) (last : SessionInput)
-    → (p : SessionTrace (written_by in_record) (at_records g nothing_counted) (at_records g' t) x y Took records)
+    {Had : Option (List ℕ) → List ℕ → Type 0} {Took : List ℕ → List ℕ → Type 0} (records : List Record) (first : List SessionInput) (last : SessionInput)
+    → (p : SessionTrace (written_by in_record) Had (at_records g nothing_counted) (at_records g' t) x y Took records)
     → p.inputs ≡ first ++ last ∷ [] → InputsShown shows g w w' first (events_in last)
     → OfFirst (RecordsShown shows g w w') records
 seen_first records first last p all seen =

@@ -2,8 +2,8 @@
 use Rattle.gw_session.proofs.Common.{◌≡◌, ℕ, List, [], ◌∷◌, ◌++◌, take, refl, arith, Some, None, Ok, Err, map, Reply}
 use Rattle.gw_session.proofs.Common.{Record, Reads, end_of, render, all_kinds, replicate, has_bad_kind, has_bad_circuit}
 use Rattle.gw_session.proofs.Common.{has_bad_length, is_cut, has_bad_command, Answers, Obeys, Changes, Act, Gateway}
-use Rattle.gw_session.proofs.Common.{false, length, drop}
-use Rattle.gw_session.specs.Killed.{sent_in, answers_in, taken_at_last, taken_at_next}
+use Rattle.gw_session.proofs.Common.{false, length, drop, Option, Gone}
+use Rattle.gw_session.specs.Killed.{at_last, at_next, had_gone, had_taken, nothing_gone}
 use Rattle.q421_line.specs.declared.LineFault.TheVariants as line
 use Rattle.q421_line.specs.Commands.{fault_number}
 use Rattle.gw_circuit.specs.declared.Dropped.TheVariants as dropped
@@ -117,34 +117,40 @@ cut_datagram : map (λ n. end_of all_kinds (take n later)) (0 ∷ 1 ∷ 2 ∷ 3 
 unfolding end_of has_bad_kind has_bad_circuit has_bad_length is_cut has_bad_command
 cut_datagram = refl
 
--- the acts for a trunk record with two packets, and for another one with none, on a tape that takes an octet for each
+-- the acts for a trunk record with two packets and an answer of two octets, and for another one with none, on a tape
+-- that takes an octet for each
+abbrev option_length : {X : Type 0} → Option (List X) → ℕ
+option_length None = 0
+option_length (Some xs) = length xs
+
+abbrev gone : List (ℕ × List ℕ) → List ℕ → Gone
+gone sent written = record { sent = Some sent; written = Some written }
+
+abbrev two : List (ℕ × List ℕ)
+two = (7, 5 ∷ []) ∷ (8, 6 ∷ []) ∷ []
+
 abbrev two_records : Gateway → List Act
 two_records gateway =
-    Act.Keeps gateway false (Some [])
-    ∷ Act.Sends 7 (5 ∷ []) false (Some (1 ∷ []))
-    ∷ Act.Sends 8 (6 ∷ []) false (Some (1 ∷ []))
-    ∷ Act.Answers false (Some (1 ∷ []))
-    ∷ Act.Keeps gateway false (Some (1 ∷ []))
-    ∷ Act.Answers false (Some (1 ∷ 2 ∷ [])) ∷ []
+    Act.Keeps gateway false (Some []) nothing_gone
+    ∷ Act.Answers false (Some (1 ∷ [])) nothing_gone
+    ∷ Act.Keeps gateway false (Some (1 ∷ [])) (gone two (9 ∷ 9 ∷ []))
+    ∷ Act.Answers false (Some (1 ∷ 2 ∷ [])) (gone two (9 ∷ 9 ∷ [])) ∷ []
 
 abbrev each_cut : List ℕ
-each_cut = 0 ∷ 1 ∷ 2 ∷ 3 ∷ 4 ∷ 5 ∷ 6 ∷ []
+each_cut = 0 ∷ 1 ∷ 2 ∷ 3 ∷ 4 ∷ []
 
--- cut behind each act: how many packets are sent and answers written
+-- cut behind each act: how many packets had gone at least, and at most
 cut_counts : (gateway : Gateway)
-    → (map (λ n. length (sent_in (take n (two_records gateway)))) each_cut ≡ 0 ∷ 0 ∷ 1 ∷ 2 ∷ 2 ∷ 2 ∷ 2 ∷ [])
-    × (map (λ n. answers_in (take n (two_records gateway))) each_cut ≡ 0 ∷ 0 ∷ 0 ∷ 0 ∷ 1 ∷ 1 ∷ 2 ∷ [])
+    → (map (λ n. option_length (at_last had_gone nothing_gone (take n (two_records gateway))).sent) each_cut
+    ≡ 0 ∷ 0 ∷ 0 ∷ 2 ∷ 2 ∷ [])
+    × (map (λ n. option_length (at_next had_gone (drop n (two_records gateway)) (gone two (9 ∷ 9 ∷ []))).sent) each_cut
+    ≡ 0 ∷ 0 ∷ 2 ∷ 2 ∷ 2 ∷ [])
 cut_counts gateway = (refl, refl)
 
 -- .. and what the log has at least, and at most
 cut_logs : (gateway : Gateway)
-    → (map (λ n. taken_at_last (Some []) (take n (two_records gateway))) each_cut
-    ≡ Some [] ∷ Some [] ∷ Some (1 ∷ []) ∷ Some (1 ∷ []) ∷ Some (1 ∷ []) ∷ Some (1 ∷ []) ∷ Some (1 ∷ 2 ∷ []) ∷ [])
-    × (map (λ n. taken_at_next (drop n (two_records gateway)) (Some (1 ∷ 2 ∷ []))) each_cut
-    ≡ Some [] ∷ Some (1 ∷ []) ∷ Some (1 ∷ []) ∷ Some (1 ∷ []) ∷ Some (1 ∷ []) ∷ Some (1 ∷ 2 ∷ []) ∷ Some (1 ∷ 2 ∷ [])
-    ∷ [])
+    → (map (λ n. at_last had_taken (Some []) (take n (two_records gateway))) each_cut
+    ≡ Some [] ∷ Some [] ∷ Some (1 ∷ []) ∷ Some (1 ∷ []) ∷ Some (1 ∷ 2 ∷ []) ∷ [])
+    × (map (λ n. at_next had_taken (drop n (two_records gateway)) (Some (1 ∷ 2 ∷ []))) each_cut
+    ≡ Some [] ∷ Some (1 ∷ []) ∷ Some (1 ∷ []) ∷ Some (1 ∷ 2 ∷ []) ∷ Some (1 ∷ 2 ∷ []) ∷ [])
 cut_logs gateway = (refl, refl)
-
--- the packet of the one that was sent
-first_packet : (gateway : Gateway) → sent_in (take 2 (two_records gateway)) ≡ (7, 5 ∷ []) ∷ []
-first_packet gateway = refl

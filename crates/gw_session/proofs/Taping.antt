@@ -6,7 +6,7 @@ use Rattle.gw_session.proofs.Common.{Event, Record, IsGood, spelled, RunFault, S
 use Rattle.gw_session.proofs.Common.{Appends-none, Appends-join, events, events_of, all_kinds, Turn, of_circuit}
 use Rattle.gw_session.proofs.Common.{arrivals, coming, events_of_turns, RecordsBehind, TapeState, Recorded, RecordedBut}
 use Rattle.gw_session.proofs.Common.{OnOk, is_err, AppendsPrefix-join, HasEnded, HasLong, WritesRecords, Taping, taping}
-use Rattle.gw_session.proofs.Common.{Batches, RecordsAll, flat_map, Datagram, Act, Learns, sends_at}
+use Rattle.gw_session.proofs.Common.{Batches, RecordsAll, flat_map, Datagram, Act, Learns}
 use Rattle.std.proofs.lemmas.List.Elements.{Contains-append_left, Contains-append_right, Contains-push}
 use Rattle.gw_session.proofs.Receiving.{of_more}
 use Rattle.gw_records.proofs.Sessions.{All-join}
@@ -71,11 +71,6 @@ recorded_told a b c es acts p q = grind (arith, append-nil es)
 pub told_recorded : (a b c : TapeState) (es : List Event) (acts : List Act) → Learns a b acts → Recorded b c es
     → Recorded a c es
 told_recorded a b c es acts p q = grind (arith, common_steps)
-
--- a tape was told of sends, and then of one more
-pub told_more : (a b c : TapeState) (ps : List (ℕ × List ℕ)) (p : ℕ × List ℕ) → Learns a b (map (sends_at a) ps)
-    → Learns b c (sends_at b p ∷ []) → Learns a c (map (sends_at a) (ps ++ p ∷ []))
-told_more a b c ps p x y = grind (arith, common_steps)
 
 -- the octets of records were written whole, or not, and the tape ended
 pub records_written : (old new : Bool) (s s' : SinkState) (octets : List ℕ)

@@ -4,7 +4,7 @@ use Rattle.gw_session.proofs.Common.{append-nil, arith, add-zero, map_push, flat
 use Rattle.gw_session.proofs.Common.{Event, octets, HasHistory, Record, SessionState, TapeState, SessionInput}
 use Rattle.gw_session.proofs.Common.{input_record, Datagram, code_of, reply_to, events_in, events_through, ActsOn}
 use Rattle.gw_session.proofs.Common.{Follows, Shows, Look, IsCalled, IsCodeAfter, AreTrue, AreShown, InputsShown}
-use Rattle.gw_session.proofs.Common.{Watched, looks_at}
+use Rattle.gw_session.proofs.Common.{Watched, looks_at, Gone, Option}
 
 -- a watch was called, and then more
 called_join : {W : Type 0} (shows : Shows W) (looks more : List Look) (w v v' : W) → IsCalled shows w v looks
@@ -105,10 +105,11 @@ true_more config before (a ∷ inputs) others last looks more all behind = (
 -- inputs were shown, and then the input of one record more: its datagrams, and then the record with the code of its
 -- answer
 pub shown_more : {W : Type 0} {shows : Shows W} {w u v v' : W} {s s' s'' : SessionState} {x y shown z : TapeState}
-    {inputs : List SessionInput}
-    {r : Record} {code : ℕ} → (q : ActsOn s' s'' shown z r) → IsCodeAfter s'.gateway r code
+    {put : GatewayConfig → List Event → List SessionInput → List ℕ} {Had : Option (List ℕ) → List ℕ → Type 0}
+    {gone : Gone} {inputs : List SessionInput}
+    {r : Record} {code : ℕ} → (q : ActsOn gone s' s'' shown z r) → IsCodeAfter s'.gateway r code
     → AreShown shows s'.gateway u v 0 (events_in q.input) → shows v v' (Look.Behind r code s''.gateway)
-    → Follows s s' x y inputs → InputsShown shows s.gateway w u inputs []
+    → Follows put Had s s' x y inputs → InputsShown shows s.gateway w u inputs []
     → InputsShown shows s.gateway w v' (inputs ++ q.input ∷ []) []
 unfolding looks_at
 shown_more {shows = shows} {w = w} {u = u} {v = v} {v' = v'} {s'' = s''} {inputs = inputs} {r = r} {code = code} q is
@@ -139,7 +140,8 @@ shown_more {shows = shows} {w = w} {u = u} {v = v} {v' = v'} {s'' = s''} {inputs
 
 -- .. and then the datagrams among the events of a record that is not shown
 pub shown_last : {W : Type 0} {shows : Shows W} {w u v : W} {s s' : SessionState} {x y : TapeState}
-    {inputs : List SessionInput} {es : List Event} → AreShown shows s'.gateway u v 0 es → Follows s s' x y inputs
+    {put : GatewayConfig → List Event → List SessionInput → List ℕ} {Had : Option (List ℕ) → List ℕ → Type 0}
+    {inputs : List SessionInput} {es : List Event} → AreShown shows s'.gateway u v 0 es → Follows put Had s s' x y inputs
     → InputsShown shows s.gateway w u inputs [] → InputsShown shows s.gateway w v inputs es
 shown_last {shows = shows} {w = w} {u = u} {v = v} {inputs = inputs} {es = es} came follows seen = record {
   looks = seen.looks ++ came.looks;

@@ -1,7 +1,7 @@
 -- What the parts of a session do, for the private functions of modules `exchange`, `handling` and
 -- `processing`.
 use Rattle.std.specs.Prelude.{◌≡◌, ◌⊎◌, ◌<◌, ◌≤◌, ◌++◌, ℕ, List, [], ◌∷◌, length, map, drop, Option, Bool}
-use Rattle.std.specs.Prelude.{Some, Result, MatchResult, flat_map, if◌then◌else◌}
+use Rattle.std.specs.Prelude.{Some, Result, MatchResult, flat_map, if◌then◌else◌, true}
 use Rattle.gw_session.specs.Prelude.{GatewayConfig, Gateway, Event, octets, HasHistory, next_circuit, Totals}
 use Rattle.gw_session.specs.Prelude.{RunFault, Record, SinkState, AppendsPrefix, AppendsBut, Waiting}
 use Rattle.gw_session.specs.Prelude.{PortsState, IfKnown, Extends, counted}
@@ -14,9 +14,9 @@ use Rattle.gw_records.specs.Ports.{TakesOut, KeepsSends, KeepsReceives}
 use Rattle.gw_session.specs.Serve.{SessionInput, Turn, input_record, octet_of, turns_of, events_in}
 use Rattle.gw_session.specs.Serve.{events_of_turns, answer_to, TurnsTrace, SessionTrace, PortTrace, Stop}
 use Rattle.gw_session.specs.Serve.{StopsSo, as_call, receives_of, HaveCalls, AreCalls, AreSends, are_held}
-use Rattle.gw_session.specs.Serve.{held_in, acts_for, of_circuit, coming, first_four, behind_four, LeavesOut}
+use Rattle.gw_session.specs.Serve.{of_circuit, coming, first_four, behind_four, LeavesOut}
 use Rattle.gw_session.specs.Serve.{packets_for, octets_for, dropped_for, through, OfFirstInputs}
-use Rattle.gw_session.specs.Tape.{TapeState, Recorded, Taping, RecordedBut, sends_at}
+use Rattle.gw_session.specs.Tape.{TapeState, Recorded, Taping, RecordedBut, Gone, gone_to, answers_at}
 use Rattle.gw_session.specs.Watch.{Shows, Look, shown_in, IsCalled, looks_at}
 use Rattle.gw_session.specs.World.{SessionState, Output, World}
 use Rattle.gw_session.specs.declared.held.HeldPacket.{HeldPacket}
@@ -187,6 +187,13 @@ pub record StopsAt (spells : PacketOutput) (s s' : SessionState) (o : Output) (s
   pub packet : ℕ × List ℕ
   pub some : 0 < length (spells packet)
 
+-- A tape was told that a record of these turns is answered, when it had all of it. If its packets are held,
+-- nothing had gone out since the record began.
+pub record IsToldFirst (holds : Bool) (before : Gone) (tape tape' : TapeState) (ts : List Turn) : Type 0 where
+  pub gone : Gone
+  pub told : Extends tape.acts tape'.acts (answers_at tape' gone ∷ [])
+  pub nothing : are_held holds ts ≡ true → gone ≡ before
+
 -- octets, those to send behind those of the answer; they and the datagrams that came were recorded, before
 -- the packets that were held were sent; and the datagrams were shown
 abbrev pub ExchangingAll : PacketOutput → (List Event → Type 0) → World → World → List ℕ → List ℕ → List ℕ
@@ -195,7 +202,7 @@ ExchangingAll spells Shown w w' octets answer answer' result = MatchResult resul
     (λ _. (sent : List ℕ) × (x : Exchanges spells w.state w'.state w.output w'.output octets sent)
     × (answer' ≡ answer ++ sent) × Recorded w.tape w'.tape (events_of_turns x.turns)
     × HaveCalls w.state.ports w'.state.ports (AreCalls (are_held w.state.holds x.turns) x.turns)
-    × Extends w.tape.acts w'.tape.acts (map (sends_at w'.tape) (held_in w.state.holds x.turns))
+    × IsToldFirst w.state.holds (gone_to w.state.ports w.output.sink) w.tape w'.tape x.turns
     × Shown (events_of_turns x.turns))
     (λ e. (e ≡ Write) × (x : StopsAt spells w.state w'.state w.output w'.output.sink octets)
     × Shown (events_of_turns x.turns))
@@ -213,21 +220,22 @@ pub record Receiving (s s' : SessionState) (circuit : ℕ) (came : List (List �
 
 -- a record was acted on: the gateway and the ports went through its input, which was recorded, and the totals
 -- count it
-pub record ActsOn (s s' : SessionState) (tape tape' : TapeState) (r : Record) : Type 0 where
+pub record ActsOn (before : Gone) (s s' : SessionState) (tape tape' : TapeState) (r : Record) : Type 0 where
   pub input : SessionInput
   pub told_is : input_record input ≡ r
   pub goes : TurnsTrace s s' (turns_of input) (events_in input)
   pub records : s'.totals.records ≡ counted s.totals.records 1
   pub octets : s'.totals.octets ≡ counted s.totals.octets (length (turns_of input))
   pub recorded : Recorded tape tape' (events_in input)
-  pub acts : Extends tape.acts tape'.acts (acts_for s.holds tape' input)
+  pub told : IsToldFirst s.holds before tape tape' (turns_of input)
   pub calls : HaveCalls s.ports s'.ports (AreCalls (are_held s.holds (turns_of input)) (turns_of input))
   pub same : s'.holds ≡ s.holds
+  pub still : s'.held ≡ s.held
 
 -- .. its datagrams were shown, and this is known of what waited and of all that is put for it
 pub record InputTrace (spells : PacketOutput) (Shown : List Event → Type 0) (w w' : World) (r : Record)
     (Took : List ℕ → Type 0) : Type 0 where
-  pub inputs : ActsOn w.state w'.state w.tape w'.tape r
+  pub inputs : ActsOn (gone_to w.state.ports w.output.sink) w.state w'.state w.tape w'.tape r
   pub shown : Shown (events_in inputs.input)
   pub took : (config : GatewayConfig) (before : List Event) → HasHistory config w.state.gateway before
       → Took (w.output.waiting ++ written_for spells config before inputs.input)
@@ -246,6 +254,11 @@ Inputs spells Shown w w' r result = MatchResult result
     × (x : StopsAt spells w.state w'.state w.output w'.output.sink octets) × Shown
     (events_of_turns x.turns))))
 
+-- a sink took octets, but for those that wait, at most this many
+abbrev pub TookBut : ℕ → Option (List ℕ) → Option (List ℕ) → List ℕ → Type 0
+TookBut late taken taken' octets =
+    (waiting : List ℕ) × (length waiting ≤ late) × TakesAllButWaiting taken taken' waiting octets
+
 -- A session but for the last record, in which a write failed when its first octets were received; at most
 -- this many octets waited before it.
 pub record CutTrace (late : ℕ) (spells : PacketOutput) (w w' : World) (begun : List Record) : Type 0 where
@@ -253,25 +266,25 @@ pub record CutTrace (late : ℕ) (spells : PacketOutput) (w w' : World) (begun :
   pub octets : List ℕ
   pub all : begun ≡ records ++ Record.Trunk octets ∷ []
   pub between : World
-  pub trace : SessionTrace (written_by spells) w.state between.state w.tape between.tape
-      (λ first. TakesAllButWaiting w.output.sink.taken between.output.sink.taken between.output.waiting)
+  pub trace : SessionTrace (written_by spells) (TookBut late w.output.sink.taken) w.state between.state w.tape
+      between.tape (λ first. TakesAllButWaiting w.output.sink.taken between.output.sink.taken between.output.waiting)
       records
   pub few : length between.output.waiting ≤ late
   pub stops : StopsAt spells between.state w'.state between.output w'.output.sink octets
 
 -- a session, and this is known of its inputs
-abbrev pub WatchedTrace : (GatewayConfig → List Event → List SessionInput → List ℕ) → SessionState
-    → SessionState → TapeState
-    → TapeState → (List ℕ → List ℕ → Type 0) → (List SessionInput → Type 0) → List Record → Type 0
-WatchedTrace put s s' tape tape' Took Seen records =
-    (t : SessionTrace put s s' tape tape' Took records) × Seen t.inputs
+abbrev pub WatchedTrace : (GatewayConfig → List Event → List SessionInput → List ℕ)
+    → (Option (List ℕ) → List ℕ → Type 0) → SessionState → SessionState → TapeState → TapeState
+    → (List ℕ → List ℕ → Type 0) → (List SessionInput → Type 0) → List Record → Type 0
+WatchedTrace put Had s s' tape tape' Took Seen records =
+    (t : SessionTrace put Had s s' tape tape' Took records) × Seen t.inputs
 
 -- a session up to a write that failed, when this many octets waited at most, and this is known of its inputs:
 -- of all, or of all but the last one and of the events of that which happened
 abbrev pub TraceToWriteError : ℕ → PacketOutput → (List SessionInput → List Event → Type 0) → World
     → (Totals → World) → List Record → Type 0
 TraceToWriteError late spells Seen w end records = (totals : Totals) × (((0 < length records)
-    × WatchedTrace (written_by spells) w.state (end totals).state w.tape (end totals).tape
-    (AppendsBut late w.output.sink.taken (end totals).output.sink.taken) (OfFirstInputs Seen) records)
+    × WatchedTrace (written_by spells) (TookBut late w.output.sink.taken) w.state (end totals).state w.tape
+    (end totals).tape (AppendsBut late w.output.sink.taken (end totals).output.sink.taken) (OfFirstInputs Seen) records)
     ⊎ ((c : CutTrace late spells w (end totals) records)
     × Seen c.trace.inputs (events_of_turns c.stops.turns)))

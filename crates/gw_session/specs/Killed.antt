@@ -1,54 +1,42 @@
--- What a session that logs its records has sent, wherever it is cut, and what its log has then.
-use Rattle.std.specs.Prelude.{◌≡◌, ◌++◌, ℕ, suc, Bool, true, false, List, [], ◌∷◌, length, flat_map, Option}
-use Rattle.std.specs.Prelude.{Some}
+-- What a session that logs its records has given out, wherever it is cut, and what its log has then.
+use Rattle.std.specs.Prelude.{◌≡◌, ◌⊎◌, ◌++◌, ℕ, Bool, true, false, List, [], ◌∷◌, Option, Some}
+use Rattle.std.specs.Io.KnownBytes.{Appends}
 use Rattle.std.specs.List.{AllByRecursion}
-use Rattle.gw_session.specs.Prelude.{Event, Gateway, GatewayConfig, HasHistory, Record}
+use Rattle.gw_session.specs.Prelude.{AppendsPrefix, Event, Gateway, GatewayConfig, HasHistory, Record}
 use Rattle.gw_records.specs.declared.records.RecordsEnd.{RecordsEnd}
 use Rattle.gw_records.specs.Records.{Reads}
 use Rattle.gw_session.specs.Answers.{events}
 use Rattle.gw_session.specs.Running.{all_kinds}
-use Rattle.gw_session.specs.Serve.{SessionInput, Follows, are_held, events_in, events_through, packets_for}
-use Rattle.gw_session.specs.Serve.{turns_of, written}
-use Rattle.gw_session.specs.Tape.{Act, TapeState}
+use Rattle.gw_session.specs.Serve.{SessionInput, Follows, LeavesOut, answer_to, are_held, events_in}
+use Rattle.gw_session.specs.Serve.{events_through, packets_for, turns_of, written}
+use Rattle.gw_session.specs.Tape.{Act, Gone, TapeState}
 use Rattle.gw_session.specs.World.{SessionState}
 
--- the packets that acts send, with their circuits
-abbrev pub sent_by : Act → List (ℕ × List ℕ)
-sent_by (Act.Sends circuit octets ended taken) = (circuit, octets) ∷ []
-sent_by act = []
-
-abbrev pub sent_in : List Act → List (ℕ × List ℕ)
-sent_in acts = flat_map sent_by acts
-
--- how many answers they write
-abbrev pub answers_in : List Act → ℕ
-answers_in [] = 0
-answers_in (Act.Answers ended taken ∷ acts) = suc (answers_in acts)
-answers_in (act ∷ acts) = answers_in acts
-
--- whether the tape had ended at an act, and what it had taken
+-- whether the tape had ended at an act, what it had taken, and what had gone out
 abbrev pub had_ended : Act → Bool
-had_ended (Act.Keeps gateway ended taken) = ended
-had_ended (Act.Sends circuit octets ended taken) = ended
-had_ended (Act.Answers ended taken) = ended
+had_ended (Act.Keeps gateway ended taken gone) = ended
+had_ended (Act.Answers ended taken gone) = ended
 
 abbrev pub had_taken : Act → Option (List ℕ)
-had_taken (Act.Keeps gateway ended taken) = taken
-had_taken (Act.Sends circuit octets ended taken) = taken
-had_taken (Act.Answers ended taken) = taken
+had_taken (Act.Keeps gateway ended taken gone) = taken
+had_taken (Act.Answers ended taken gone) = taken
+
+abbrev pub had_gone : Act → Gone
+had_gone (Act.Keeps gateway ended taken gone) = gone
+had_gone (Act.Answers ended taken gone) = gone
 
 abbrev pub IsGoing : Act → Type 0
 IsGoing act = had_ended act ≡ false
 
--- what it had taken at the last of acts, or at the beginning
-abbrev pub taken_at_last : Option (List ℕ) → List Act → Option (List ℕ)
-taken_at_last taken [] = taken
-taken_at_last taken (act ∷ acts) = taken_at_last (had_taken act) acts
+-- what acts say at the last of them, or what was at the beginning
+abbrev pub at_last : {X : Type 0} → (Act → X) → X → List Act → X
+at_last f begun [] = begun
+at_last f begun (act ∷ acts) = at_last f (f act) acts
 
--- .. at the first of acts, or at the end
-abbrev pub taken_at_next : List Act → Option (List ℕ) → Option (List ℕ)
-taken_at_next [] taken = taken
-taken_at_next (act ∷ acts) taken = had_taken act
+-- .. at the first of them, or what is at the end
+abbrev pub at_next : {X : Type 0} → (Act → X) → List Act → X → X
+at_next f [] end = end
+at_next f (act ∷ acts) end = f act
 
 -- the packets of an input are held until it is on the tape, as `serve_logged` does up to 2,048 octets
 abbrev pub HoldsPackets : Bool → SessionInput → Type 0
@@ -58,40 +46,75 @@ HoldsPackets holds input = are_held holds (turns_of input) ≡ true
 abbrev pub new_tape : TapeState
 new_tape = record { ended = false; failures = 0; taken = Some []; acts = Some [] }
 
--- A session of this gateway with a new tape, which held the packets of each input until it was on the tape,
--- was cut behind these acts, at none of which the tape had ended. Its log has these octets then: all that the
--- tape had at the last act, and the first of those that it took up to the next one. (The act that it was cut
--- in, if it was in one, is the last of these, or not among them. `Follows` is so of each session that
--- returned, by `ServesAll` and `ServesUntil`. One that is killed has done the first acts of one that returns,
--- around which everything fails from the kill on.)
-pub record WasCutOff (gateway : Gateway) (acts : List Act) (octets : List ℕ) : Type 0 where
+-- nothing has gone out
+abbrev pub nothing_gone : Gone
+nothing_gone = record { sent = Some []; written = Some [] }
+
+-- what a list is that only grows, at a moment between two at which it was known
+pub record IsBetween {X : Type 0} (low high : Option (List X)) (xs : List X) : Type 0 where
+  pub first : List X
+  pub low_is : low ≡ Some first
+  pub more : List X
+  pub xs_are : xs ≡ first ++ more
+  pub rest : List X
+  pub high_is : high ≡ Some (xs ++ rest)
+
+-- A session of this gateway, with a new tape, which held the packets of each input until it was on the tape,
+-- was cut at a moment between two acts, at none of which before it the tape had ended. What its tape had taken
+-- then, and the packets and octets that had gone out, are between what they were at these acts, or at the
+-- beginning and the end. (`Follows` is so of each session that returned, by `ServesAll` and `ServesUntil`. One
+-- that is killed has done the first of what one does that returns, around which everything fails from the kill
+-- on.)
+pub record WasCutOff (gateway : Gateway) (octets : List ℕ) (sent : List (ℕ × List ℕ)) (out : List ℕ)
+    : Type 0 where
   pub session : SessionState
   pub gateway_is : session.gateway ≡ gateway
+  pub none_sent : session.ports.taken ≡ Some []
+  pub none_held : session.held ≡ []
   pub inputs : List SessionInput
   pub session' : SessionState
   pub tape' : TapeState
-  pub follows : Follows session session' new_tape tape' inputs
+  pub follows : Follows written (Appends (Some [])) session session' new_tape tape' inputs
   pub held : AllByRecursion (HoldsPackets session.holds) inputs
+  pub out' : Option (List ℕ)
+  pub took : (config : GatewayConfig) (before : List Event) → HasHistory config gateway before
+      → AppendsPrefix (Some []) out' (written config before inputs)
+  pub acts : List Act
   pub later : List Act
   pub all : tape'.acts ≡ Some (acts ++ later)
   pub going : AllByRecursion IsGoing acts
-  pub had : List ℕ
-  pub at_last : taken_at_last (Some []) acts ≡ Some had
-  pub fresh : List ℕ
-  pub octets_are : octets ≡ had ++ fresh
-  pub rest : List ℕ
-  pub at_next : taken_at_next later tape'.taken ≡ Some (octets ++ rest)
+  pub logged : IsBetween (at_last had_taken (Some []) acts) (at_next had_taken later tape'.taken) octets
+  pub sends : IsBetween (at_last had_gone nothing_gone acts).sent
+      (at_next had_gone later (record { sent = session'.ports.taken; written = out' })).sent sent
+  pub writes : IsBetween (at_last had_gone nothing_gone acts).written
+      (at_next had_gone later (record { sent = session'.ports.taken; written = out' })).written out
 
 -- events are the first of those of the next input, or there are none
 abbrev pub AreOfNext : List Event → List SessionInput → Type 0
 AreOfNext es [] = es ≡ []
 AreOfNext es (input ∷ inputs) = (later : List Event) × (events_in input ≡ es ++ later)
 
--- Acts are the beginning of what answers the events that are logged: those of the first inputs, each of
--- which was answered behind all of its packets, and events of the next one, of whose packets the first ones
--- were sent.
+-- The next input is logged whole, and what went out is the first of what answers it, behind all that answers
+-- the inputs before: the octets, and the packets but for those whose sends failed.
+pub record AnswersNext (config : GatewayConfig) (before : List Event) (answered others : List SessionInput)
+    (last : List Event) (sent : List (ℕ × List ℕ)) (part : List ℕ)
+    : Type 0 where
+  pub next : SessionInput
+  pub later : List SessionInput
+  pub others_are : others ≡ next ∷ later
+  pub last_is : last ≡ events_in next
+  pub unsent : List (ℕ × List ℕ)
+  pub failed : ℕ
+  pub packets_are :
+      LeavesOut failed (sent ++ unsent) (packets_for config before (events_through answered ++ events_in next))
+  pub rest : List ℕ
+  pub octets_are : part ++ rest ≡ answer_to config (before ++ events_through answered) next
+
+-- What went out is the beginning of what answers the events that are logged. It is all that answers the first
+-- inputs, the octets and the packets but for those whose sends failed; and nothing more, or the first of what
+-- answers the next input, if that is logged whole.
 pub record AnswersFirst (config : GatewayConfig) (before : List Event) (inputs : List SessionInput)
-    (logged : List Event) (acts : List Act)
+    (logged : List Event) (sent : List (ℕ × List ℕ)) (out : List ℕ)
     : Type 0 where
   pub answered : List SessionInput
   pub others : List SessionInput
@@ -99,19 +122,20 @@ pub record AnswersFirst (config : GatewayConfig) (before : List Event) (inputs :
   pub last : List Event
   pub logged_are : logged ≡ events_through answered ++ last
   pub of_next : AreOfNext last others
-  pub sent : List (ℕ × List ℕ)
-  pub unsent : List (ℕ × List ℕ)
-  pub sent_are : sent_in acts ≡ packets_for config before (events_through answered) ++ sent
-  pub all : packets_for config (before ++ events_through answered) last ≡ sent ++ unsent
-  pub answers : answers_in acts ≡ length answered
-  pub unanswered : List ℕ
-  pub written_are : written config before inputs ≡ written config before answered ++ unanswered
+  pub first : List (ℕ × List ℕ)
+  pub more : List (ℕ × List ℕ)
+  pub sent_are : sent ≡ first ++ more
+  pub failed : ℕ
+  pub first_are : LeavesOut failed first (packets_for config before (events_through answered))
+  pub part : List ℕ
+  pub out_is : out ≡ written config before answered ++ part
+  pub rest_is : ((more ≡ []) × (part ≡ [])) ⊎ AnswersNext config before answered others last sent part
 
--- However a session is cut off, what it did is the beginning of what answers the whole records in its log,
--- and lacks at most a part of the last one's answer.
+-- However a session is cut off, what it gave out is the beginning of what answers the whole records in its
+-- log, and lacks at most a part of the last one's answer.
 abbrev pub CutSessionsAnswerTheirLogs : Type 0
 CutSessionsAnswerTheirLogs = (config : GatewayConfig) (before : List Event) (gateway : Gateway)
-    (acts : List Act) (octets : List ℕ) (records : List Record) (ending : RecordsEnd)
-    → HasHistory config gateway before → (cut : WasCutOff gateway acts octets)
+    (octets : List ℕ) (sent : List (ℕ × List ℕ)) (out : List ℕ) (records : List Record) (ending : RecordsEnd)
+    → HasHistory config gateway before → (cut : WasCutOff gateway octets sent out)
     → Reads all_kinds octets records ending
-    → AnswersFirst config before cut.inputs (events records) acts
+    → AnswersFirst config before cut.inputs (events records) sent out

@@ -4,17 +4,26 @@ use Rattle.std.specs.Prelude.{None, Some, length, map, flat_map}
 use Rattle.std.specs.Io.KnownBytes.{Appends}
 use Rattle.std.specs.List.{AllByRecursion}
 use Rattle.gw_session.specs.Prelude.{Datagram, Event, Gateway, Record, IsGood, AppendsPrefix, Extends}
+use Rattle.gw_session.specs.Prelude.{PortsState, SinkState}
 use Rattle.gw_records.specs.Records.{spelled}
 use Rattle.gw_session.specs.Answers.{events}
 use Rattle.gw_session.specs.Running.{all_kinds}
 
--- What a session does between two writes to its tape: it shows the tape its gateway, sends a packet of a
--- circuit that was held, or answers. With it is what the tape had then: whether it had ended and, where they
--- are known, the octets that it had taken.
+-- what had gone to the ports and the sink of a session, where it is known: packets with their circuits, and
+-- octets
+pub record Gone : Type 0 where
+  pub sent : Option (List (ℕ × List ℕ))
+  pub written : Option (List ℕ)
+
+abbrev pub gone_to : PortsState → SinkState → Gone
+gone_to ports sink = record { sent = ports.taken; written = sink.taken }
+
+-- What a session does between two writes to its tape: it shows the tape its gateway, or it answers, by packets
+-- and octets, what the tape has. With it is what the tape had then: whether it had ended and, where they are
+-- known, the octets that it had taken; and what had gone out by then.
 pub data Act : Type 0 where
-  Keeps : (gateway : Gateway) → (ended : Bool) → (taken : Option (List ℕ)) → Act
-  Sends : (circuit : ℕ) → (octets : List ℕ) → (ended : Bool) → (taken : Option (List ℕ)) → Act
-  Answers : (ended : Bool) → (taken : Option (List ℕ)) → Act
+  Keeps : (gateway : Gateway) → (ended : Bool) → (taken : Option (List ℕ)) → (gone : Gone) → Act
+  Answers : (ended : Bool) → (taken : Option (List ℕ)) → (gone : Gone) → Act
 
 -- a tape: whether it has ended, its writes that failed and, where they are known, the octets that it took and
 -- the acts that it was told of
@@ -24,15 +33,12 @@ pub record TapeState : Type 0 where
   pub taken : Option (List ℕ)
   pub acts : Option (List Act)
 
--- a gateway is shown, a packet of a circuit is sent, or an answer, when the tape is so
-abbrev pub keeps_at : TapeState → Gateway → Act
-keeps_at tape gateway = Act.Keeps gateway tape.ended tape.taken
+-- a gateway is shown, or an answer begins, when the tape is so and this had gone out
+abbrev pub keeps_at : TapeState → Gateway → Gone → Act
+keeps_at tape gateway gone = Act.Keeps gateway tape.ended tape.taken gone
 
-abbrev pub sends_at : TapeState → ℕ × List ℕ → Act
-sends_at tape p = Act.Sends p.0 p.1 tape.ended tape.taken
-
-abbrev pub answers_at : TapeState → Act
-answers_at tape = Act.Answers tape.ended tape.taken
+abbrev pub answers_at : TapeState → Gone → Act
+answers_at tape gone = Act.Answers tape.ended tape.taken gone
 
 -- a tape was told of acts, and stays as it was but for that
 pub record Learns (tape tape' : TapeState) (acts : List Act) : Type 0 where

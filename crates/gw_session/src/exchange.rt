@@ -161,6 +161,8 @@ impl SessionBuffers {
         ensures puts { Puts (A.tells sink.old) (A.tells sink.new) (A.waiting answers.new)
             (A.waiting answers.old ++ O.spells (circuit, self.old.datagram.items)) result }
         ensures kept { OnErr result (O.tells packet_ports.new ≡ O.tells packet_ports.old) }
+        ensures still { self.old.holding ≡ true
+            → (packet_ports.new ≡ packet_ports.old) × (sink.new ≡ sink.old) }
         ensures some { OnErr result (0 < length (O.spells (circuit, self.old.datagram.items))) }
         ensures late { A.late answers.new ≡ A.late answers.old }
         ensures memory { vec_capacity self.new.held.packets ≡ vec_capacity self.old.held.packets }
@@ -206,6 +208,8 @@ impl SessionBuffers {
             (O.tells packet_ports.new) gateway.new self.new.totals)
             (output_of (A.tells sink.old) (A.waiting answers.old))
             (output_of (A.tells sink.new) (A.waiting answers.new)) octet result }
+        ensures still { self.old.holding ≡ true
+            → (packet_ports.new ≡ packet_ports.old) × (sink.new ≡ sink.old) }
         ensures late { A.late answers.new ≡ A.late answers.old }
         ensures memory { vec_capacity self.new.held.packets ≡ vec_capacity self.old.held.packets }
         ensures holds { self.new.held.holds ≡ self.old.held.holds }
@@ -311,6 +315,7 @@ impl SessionBuffers {
             self.answer.push(sent);
         }
         record_octets(tape, &mut self.batch, &octets[self.recorded..]);
+        tape.before_answer::<O, A>(packet_ports, sink);
         let held = &self.held;
         send_held(
             held.packets.as_slice(),
@@ -318,7 +323,6 @@ impl SessionBuffers {
             &mut self.totals,
             answers,
             sink,
-            tape,
         );
         Ok(())
     }

@@ -6,7 +6,11 @@ ghost use Rattle.gw_switch.specs.Whole.{Reply};
 ghost use Rattle.gw_records.specs.Streams.{CanCount, Puts};
 ghost use Rattle.gw_session.specs.Answers.{code_of};
 ghost use Rattle.gw_session.specs.Exchange.{TakesEvent};
-ghost use Rattle.gw_session.specs.Tape.{Learns, answers_at};
+ghost use Rattle.gw_records.specs.Ports.{Extends};
+ghost use Rattle.gw_records.specs.Records.{IsGood, named};
+ghost use Rattle.gw_session.specs.Answers.{events_of};
+ghost use Rattle.gw_session.specs.Running.{all_kinds};
+ghost use Rattle.gw_session.specs.Tape.{Recorded, answers_at, gone_to};
 
 use crate::exchange::{SessionBuffers, give_shown};
 use crate::packet_ports::PacketPorts;
@@ -53,6 +57,23 @@ fn give_codec(gateway: &mut Gateway, circuit: CircuitNo, codec: CodecKind, paylo
     codec_code(gateway.codec(circuit, codec, payload_type))
 }
 
+// Puts a record on the tape, which is then told that it is answered.
+fn log_record<O: PacketPorts<A>, A: Answers, T: Tape>(
+    head: RecordHead,
+    body: &[u8],
+    tape: &mut T,
+    ports: &O,
+    sink: &A::Sink,
+)
+    requires { IsGood all_kinds (named head body.now) }
+    ensures recorded { Recorded (T.tells tape.old) (T.tells tape.new) (events_of (named head body.now)) }
+    ensures told { Extends (T.tells tape.old).acts (T.tells tape.new).acts
+        (answers_at (T.tells tape.new) (gone_to (O.tells ports.now) (A.tells sink.now)) ∷ []) }
+{
+    tape.put(head, body);
+    tape.before_answer::<O, A>(ports, sink);
+}
+
 impl SessionBuffers {
     ghost use Rattle.std.specs.Prelude.{◌≡◌, ◌+◌, ◌^◌, ◌<◌, ◌≤◌, ◌++◌, ◌∷◌, [], length, OnOk, true};
     ghost use Rattle.gw_records.specs.Records.{Record, IsGood, named};
@@ -62,7 +83,6 @@ impl SessionBuffers {
     ghost use Rattle.gw_session.specs.Running.{all_kinds};
     ghost use Rattle.gw_session.specs.Exchange.{AreShown, Inputs, IsSilent};
     ghost use Rattle.gw_session.specs.Watch.{IsCodeAfter};
-    ghost use Rattle.gw_session.specs.Tape.{Learns, answers_at};
     ghost use Rattle.gw_session.specs.World.{world_in};
 
     // Gives the octets of a trunk record to the gateway, and puts those that answer it.
@@ -95,24 +115,21 @@ impl SessionBuffers {
         self.answer.clear();
         self.exchange_all(gateway, packet_ports, body, answers, sink, tape, watch)?;
         self.code = 0;
-        tape.before_answer();
         answers.put_octets(self.answer.as_slice(), sink)
     }
 
     // Counts a record, and puts the answer of its circuit.
-    fn put_answer<A: Answers, T: Tape>(
+    fn put_answer<A: Answers>(
         &mut self,
         circuit: CircuitNo,
         kind: u8,
         code: u8,
         answers: &mut A,
         sink: &mut A::Sink,
-        tape: &mut T,
     ) -> Result<(), RunFault>
         requires writes { CanCount (A.tells sink.old).failures }
         ensures puts { Puts (A.tells sink.old) (A.tells sink.new) (A.waiting answers.new)
             (A.waiting answers.old ++ written_out (Answered circuit kind code)) result }
-        ensures acts { Learns (T.tells tape.old) (T.tells tape.new) (answers_at (T.tells tape.old) ∷ []) }
         ensures code { self.new.code ≡ code }
         ensures counts { self.new.totals
             ≡ record self.old.totals { records = at_most (self.old.totals.records + 1) } }
@@ -122,7 +139,6 @@ impl SessionBuffers {
     {
         self.totals.records = self.totals.records.saturating_add(1);
         self.code = code;
-        tape.before_answer();
         answers.put_code(circuit, kind, code, sink)
     }
 
@@ -159,19 +175,19 @@ impl SessionBuffers {
                 self.handle_trunk_record(gateway, packet_ports, body, answers, sink, tape, watch)
             }
             RecordHead::Datagram(circuit) => {
-                tape.put(head, body);
+                log_record::<O, A, T>(head, body, tape, packet_ports, sink);
                 let code = give_shown(gateway, 0, circuit, body, &mut self.totals, watch);
-                self.put_answer(circuit, DATAGRAM, code, answers, sink, tape)
+                self.put_answer(circuit, DATAGRAM, code, answers, sink)
             }
             RecordHead::Command(circuit, command) => {
-                tape.put(head, body);
+                log_record::<O, A, T>(head, body, tape, packet_ports, sink);
                 let code = give_command(gateway, circuit, command);
-                self.put_answer(circuit, COMMAND, code, answers, sink, tape)
+                self.put_answer(circuit, COMMAND, code, answers, sink)
             }
             RecordHead::Codec(circuit, codec, payload_type) => {
-                tape.put(head, body);
+                log_record::<O, A, T>(head, body, tape, packet_ports, sink);
                 let code = give_codec(gateway, circuit, codec, payload_type);
-                self.put_answer(circuit, CODEC, code, answers, sink, tape)
+                self.put_answer(circuit, CODEC, code, answers, sink)
             }
         }
     }

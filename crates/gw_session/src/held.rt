@@ -1,13 +1,11 @@
 //! The packets of a record of the trunk that are held until it is on the tape (`HeldPackets`).
-ghost use Rattle.std.specs.Prelude.{◌≡◌, ◌∷◌, ◌++◌, ◌<◌, [], length, map, vec_capacity, true, false};
+ghost use Rattle.std.specs.Prelude.{◌≡◌, ◌∷◌, ◌++◌, ◌<◌, [], length, vec_capacity, true, false};
 ghost use Rattle.std.specs.Prelude.{◌&&◌, nat_le, IfOk, OnOk, OnErr};
 ghost use Rattle.gw_records.specs.Streams.{CanCount, Puts};
 ghost use Rattle.gw_records.specs.Streams.{TakesAllButWaiting};
 ghost use Rattle.gw_session.specs.Exchange.{IsSilent, GoToPorts, packets_held};
-ghost use Rattle.gw_session.specs.Tape.{Learns, sends_at};
 
 use crate::packet_ports::PacketPorts;
-use crate::tape::Tape;
 use g704_cas::CircuitNo;
 use gw_circuit::Datagram;
 use gw_records::{Answers, RunFault, Totals};
@@ -105,14 +103,13 @@ pub fn send_packet<O: PacketPorts<A>, A: Answers>(
     Ok(())
 }
 
-/// Sends the packets that are held, and tells the tape of each.
-pub fn send_held<O: PacketPorts<A>, A: Answers, T: Tape>(
+/// Sends the packets that are held.
+pub fn send_held<O: PacketPorts<A>, A: Answers>(
     held: &[HeldPacket],
     packet_ports: &mut O,
     totals: &mut Totals,
     answers: &mut A,
     sink: &mut A::Sink,
-    tape: &mut T,
 )
     requires writes { CanCount (A.tells sink.old).failures }
     requires silent { 0 < length held.now → IsSilent O.spells }
@@ -122,12 +119,9 @@ pub fn send_held<O: PacketPorts<A>, A: Answers, T: Tape>(
         (A.waiting answers.new) (A.waiting answers.old) }
     ensures no_failure { (A.tells sink.new).failures ≡ (A.tells sink.old).failures }
     ensures late { A.late answers.new ≡ A.late answers.old }
-    ensures acts { Learns (T.tells tape.old) (T.tells tape.new)
-        (map (sends_at (T.tells tape.old)) (packets_held held.now)) }
 {
     for i in 0..held.len() {
         let packet = &held[i];
-        tape.before_send(packet.circuit, packet.octets.as_slice());
         // (No write of it fails, since it puts nothing in front of the answer.)
         let _ = send_packet(
             packet.circuit,

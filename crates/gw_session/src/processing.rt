@@ -5,7 +5,7 @@ ghost use Rattle.gw_records.specs.Reader.{FailsToRead, ReadsOn};
 ghost use Rattle.gw_records.specs.Records.{end_of};
 ghost use Rattle.gw_records.specs.Streams.{CanBegin, CanCount};
 ghost use Rattle.gw_records.specs.Outcome.{nothing_counted, EndsAll, EndsUntil};
-ghost use Rattle.gw_session.specs.Exchange.{written_by, WatchedTrace, TraceToWriteError};
+ghost use Rattle.gw_session.specs.Exchange.{written_by, TookBut, WatchedTrace, TraceToWriteError};
 ghost use Rattle.gw_session.specs.Exchange.{IsSilent};
 ghost use Rattle.gw_session.specs.Watch.{InputsShown};
 ghost use Rattle.gw_session.specs.World.{state_in, world_in};
@@ -64,7 +64,7 @@ pub(crate) fn process_records<O: PacketPorts<A>, R: Records, A: Answers, T: Tape
     requires silent { session.old.held.holds ≡ true → IsSilent O.spells }
     ensures ok { IfOk result (EndsAll kinds.now
         (R.tells source.old) (R.tells source.new) (A.tells sink.old) (A.tells sink.new)
-        (λ totals. WatchedTrace (written_by O.spells)
+        (λ totals. WatchedTrace (written_by O.spells) (TookBut (A.late answers.old) (A.tells sink.old).taken)
         (state_in session.old.held.holds (O.tells packet_ports.old) gateway.old nothing_counted)
         (state_in session.old.held.holds (O.tells packet_ports.new) gateway.new totals)
         (T.tells tape.old) (T.tells tape.new)
@@ -73,7 +73,7 @@ pub(crate) fn process_records<O: PacketPorts<A>, R: Records, A: Answers, T: Tape
     ensures kept { R.stops ≡ true → OnOk result (T.is_lost tape.new ≡ false) }
     ensures fault { IfErr result (EndsUntil kinds.now
         (R.tells source.old) (R.tells source.new) (A.tells sink.old) (A.tells sink.new)
-        (λ totals. WatchedTrace (written_by O.spells)
+        (λ totals. WatchedTrace (written_by O.spells) (TookBut (A.late answers.old) (A.tells sink.old).taken)
         (state_in session.old.held.holds (O.tells packet_ports.old) gateway.old nothing_counted)
         (state_in session.old.held.holds (O.tells packet_ports.new) gateway.new totals)
         (T.tells tape.old) (T.tells tape.new)
@@ -89,7 +89,7 @@ pub(crate) fn process_records<O: PacketPorts<A>, R: Records, A: Answers, T: Tape
     'handling: loop {
         match records.first(kinds) {
             Ok(first) => {
-                tape.keep(gateway);
+                tape.keep::<O, A>(gateway, packet_ports, sink);
                 let body = records.body(&first);
                 session.handle_record(
                     gateway,

@@ -7,14 +7,14 @@ ghost use Rattle.gw_records.specs.Records.{IsGood, named};
 ghost use Rattle.gw_session.specs.Answers.{events_of};
 ghost use Rattle.gw_session.specs.Running.{all_kinds};
 ghost use Rattle.gw_session.specs.Tape.{TapeState, no_tape, tells_of, Recorded, HasEnded, Learns, keeps_at};
-ghost use Rattle.gw_session.specs.Tape.{is_lost_of};
-ghost use Rattle.gw_session.specs.Tape.{sends_at};
+ghost use Rattle.gw_session.specs.Tape.{gone_to, is_lost_of};
 ghost use Rattle.gw_session.specs.Tape.{WritesRecords, Batches, RecordsAll, taping, answers_at};
 
+use crate::packet_ports::PacketPorts;
 use crate::spelling::append;
 use arrayvec::ArrayVec;
 use g704_cas::CircuitNo;
-use gw_records::{DATAGRAM, FRONT_LEN, RecordHead, TRUNK};
+use gw_records::{Answers, DATAGRAM, FRONT_LEN, RecordHead, TRUNK};
 use gw_switch::Gateway;
 
 // The longest datagram that a record can hold.
@@ -54,18 +54,16 @@ pub trait Tape {
     fn is_lost(&self) -> bool
         ensures { result ≡ is_lost self.now };
 
-    /// Learns the gateway, which stands behind all that was put. It is shown before each record.
-    fn keep(&mut self, gateway: &Gateway)
-        ensures { Learns (tells self.old) (tells self.new) (keeps_at (tells self.old) gateway.now ∷ []) };
-
-    /// Learns that a packet of a circuit is sent next, which was held until its record was put.
-    fn before_send(&mut self, circuit: CircuitNo, packet: &[u8])
+    /// Learns the gateway, which stands behind all that was put, and is shown what packets and answers go to.
+    /// It is called before each record.
+    fn keep<O: PacketPorts<A>, A: Answers>(&mut self, gateway: &Gateway, ports: &O, sink: &A::Sink)
         ensures { Learns (tells self.old) (tells self.new)
-            (sends_at (tells self.old) (circuit, packet.now) ∷ []) };
+            (keeps_at (tells self.old) gateway.now (gone_to (O.tells ports.now) (A.tells sink.now)) ∷ []) };
 
-    /// Learns that an answer is written next.
-    fn before_answer(&mut self)
-        ensures { Learns (tells self.old) (tells self.new) (answers_at (tells self.old) ∷ []) };
+    /// Learns that what was put is answered next, and is shown what packets and answers go to.
+    fn before_answer<O: PacketPorts<A>, A: Answers>(&mut self, ports: &O, sink: &A::Sink)
+        ensures { Learns (tells self.old) (tells self.new)
+            (answers_at (tells self.old) (gone_to (O.tells ports.now) (A.tells sink.now)) ∷ []) };
 }
 
 /// A tape that takes nothing.
@@ -89,11 +87,15 @@ impl Tape for NoTape {
     }
 
     #[inline(always)]
-    fn keep(&mut self, _gateway: &Gateway) {}
+    fn keep<O: PacketPorts<A>, A: Answers>(
+        &mut self,
+        _gateway: &Gateway,
+        _ports: &O,
+        _sink: &A::Sink,
+    ) {}
 
-    fn before_send(&mut self, _circuit: CircuitNo, _packet: &[u8]) {}
-
-    fn before_answer(&mut self) {}
+    #[inline(always)]
+    fn before_answer<O: PacketPorts<A>, A: Answers>(&mut self, _ports: &O, _sink: &A::Sink) {}
 }
 
 /// A tape, or none.
@@ -127,21 +129,20 @@ impl<T: Tape> Tape for Option<T> {
         }
     }
 
-    fn keep(&mut self, gateway: &Gateway) {
+    fn keep<O: PacketPorts<A>, A: Answers>(
+        &mut self,
+        gateway: &Gateway,
+        ports: &O,
+        sink: &A::Sink,
+    ) {
         if let Some(tape) = self {
-            tape.keep(gateway);
+            tape.keep::<O, A>(gateway, ports, sink);
         }
     }
 
-    fn before_send(&mut self, circuit: CircuitNo, packet: &[u8]) {
+    fn before_answer<O: PacketPorts<A>, A: Answers>(&mut self, ports: &O, sink: &A::Sink) {
         if let Some(tape) = self {
-            tape.before_send(circuit, packet);
-        }
-    }
-
-    fn before_answer(&mut self) {
-        if let Some(tape) = self {
-            tape.before_answer();
+            tape.before_answer::<O, A>(ports, sink);
         }
     }
 }

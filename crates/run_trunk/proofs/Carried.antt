@@ -109,10 +109,11 @@ appends-first : (old new : Option (List ℕ)) (all more : List ℕ) → old ≡ 
 appends-first old new all more e f p = rw (e, f) at p
 
 -- Records that are given were served by a gateway to which this had happened.
-carried-records : {s s' : SessionState} {tape tape' : TapeState} {Took : List ℕ → List ℕ
+carried-records : {s s' : SessionState} {tape tape' : TapeState} {Had : Option (List ℕ) → List ℕ → Type 0}
+    {Took : List ℕ → List ℕ
     → Type 0} {records : List Record}
     (config : GatewayConfig) (before : List Event) (heard asked sent told : List ℕ)
-    → (p : SessionTrace written s s' tape tape' Took records) → HasHistory config s.gateway before
+    → (p : SessionTrace written Had s s' tape tape' Took records) → HasHistory config s.gateway before
     → Woven heard asked records → AllByRecursion (IsGood served_kinds) records
     → sent ≡ bodies (written config before p.inputs) → told ≡ others (written config before p.inputs)
     → Carries config before s'.gateway tape tape' (traffic heard asked sent told)

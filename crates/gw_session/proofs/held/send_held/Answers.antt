@@ -1,7 +1,6 @@
 use Rattle.gw_session.proofs.Common.{◌++◌, ◌∷◌, [], take, map_push, arith, packets_held, take_more, ap, sym, ◌∙◌}
 use Rattle.gw_session.specs.declared.held.HeldPacket.{HeldPacket}
 use Rattle.gw_session.proofs.PacketsSent.{sends_more, sent_silently, takes_on}
-use Rattle.gw_session.proofs.Taping.{told_more}
 use Rattle.gw_session.proofs.held.send_held.Goals as goal
 
 pub loop-i-preserved : goal.loop-i-preserved
@@ -16,8 +15,6 @@ loop-i-preserved g c =
     c.send_packet.ensures.some c.send_packet.ensures.sends c.send_packet.ensures.puts in
     record {
       sends = rw held (sends_more _ _ _ _ _ _ _ _ w.sends sent.0);
-      told = rw held (told_more _ _ _ _ (packet.circuit, packet.octets.items) w.told
-          (rw c.as_slice.ensures.value at c.before_send.ensures));
       passes = takes_on _ _ _ _ _ _ w.passes sent.1;
       no_failure = sent.2 ∙ w.no_failure;
       late = c.send_packet.ensures.late ∙ w.late;

@@ -1,4 +1,4 @@
-use Rattle.gw_session.proofs.Common.{◌≡◌, take, map, GoToPorts, packets_held, TakesAllButWaiting, Learns, sends_at}
+use Rattle.gw_session.proofs.Common.{◌≡◌, take, GoToPorts, packets_held, TakesAllButWaiting}
 use Rattle.gw_session.proofs.held.send_held.Given as goal
 
 abbrev pub invariant-loop-i : goal.invariant-loop-i
@@ -7,8 +7,6 @@ invariant-loop-i g l = record {
       l.initial.totals l.totals (packets_held (take l.i l.held));
   passes : TakesAllButWaiting (g.A.Answers.tells l.initial.sink).taken (g.A.Answers.tells l.sink).taken
       (g.A.Answers.waiting l.answers) (g.A.Answers.waiting l.initial.answers);
-  told : Learns (g.T.Tape.tells l.initial.tape) (g.T.Tape.tells l.tape)
-      (map (sends_at (g.T.Tape.tells l.initial.tape)) (packets_held (take l.i l.held)));
   no_failure : (g.A.Answers.tells l.sink).failures ≡ (g.A.Answers.tells l.initial.sink).failures;
   late : g.A.Answers.late l.answers ≡ g.A.Answers.late l.initial.answers;
 }

@@ -13,7 +13,7 @@ handling-init g c = (
   [],
   record {
     stage = starts _ _ _ c.requires.holds c.requires.turns;
-    through = rw c.requires.totals (through_none _ _ none_shown c.requires.waiting);
+    through = rw c.requires.totals (through_none _ _ _ none_shown c.requires.waiting);
     none_waits = λ none. ap length c.requires.waiting;
     few = omega (arith, ap length c.requires.waiting);
     late = refl;
@@ -40,7 +40,7 @@ returns-in_err-handle_record-in-Ok-clause-fault g c =
     c.in_err-handle_record-in-Ok.ensures.inputs in
     let seen = InputsShown g.W.Watch.shows c.args.gateway.now c.args.watch.now c.handling.watch in
     let known = InputsShown g.W.Watch.shows c.args.gateway.now c.args.watch.now c.handle_record.new.watch in
-    let stopped = input_failed _ seen c.keep.ensures known _ w.2.few w.2.through
+    let stopped = input_failed _ _ (g.A.Answers.tells c.args.sink.now) seen _ c.keep.ensures w.2.few w.2.through known
     (λ inputs es came follows seen. shown_last came follows seen) q.2 in
     goes_up _ _ faults.Write c.from_residual.ensures.1 q.0 (stops_in f w.2.stage found q.1 (_, stopped))
 
@@ -62,7 +62,7 @@ handling-preserved-in-Ok g c =
       w.1 ++ record_at f (g.R.Records.holds c.handling.records).octets ∷ [],
       record {
         stage = record_taken f w.2.stage found c.pass.ensures.octets c.pass.ensures.turns q.1;
-        through = through_done _ seen c.keep.ensures known w.2.through q.0
+        through = through_done _ _ (g.A.Answers.tells c.args.sink.now) seen _ c.keep.ensures w.2.few w.2.through known q.0
             (λ inputs. shown_more q.0.inputs code q.0.shown shown);
         none_waits = λ none. absurd (omega (arith, none, more));
         few = rw w.2.late at c.in_ok-handle_record-in-Ok.ensures.few;
@@ -79,7 +79,7 @@ returns-in_err-write_out-in-Err-clause-fault g c =
     goes_up _ _ faults.Write c.from_residual-in_err-write_out-in-Err.ensures.1 fault.0 (stops_behind w.2.stage
     fault.1.counted (
       _,
-      inl (waiting_failed _ seen _ w.2.few w.2.through
+      inl (waiting_failed _ _ (g.A.Answers.tells c.args.sink.now) seen w.2.few w.2.through
           (some_records _ _ w.2.none_waits c.in_err-write_out-in-Err.ensures.some) fault.1),
     ))
 
@@ -93,7 +93,7 @@ handling-preserved g c =
       w.1,
       record {
         stage = reads_more w.2.stage r c.requires.begins.turns flushed.writes.1;
-        through = through_on _ seen w.2.through flushed.writes.0 flushed.empty;
+        through = through_on _ _ (g.A.Answers.tells c.args.sink.now) seen w.2.through flushed.writes.0 flushed.empty;
         none_waits = λ none. ap length flushed.empty;
         few = omega (arith, ap length flushed.empty);
         late = c.write_out.ensures.late ∙ w.2.late;
@@ -108,7 +108,7 @@ returns-then-not-branch-clause-ok g c =
     let r = rw c.if-not-branch.true at c.in_ok-read_more-in-Err.ensures.ok in
     let e = ended c.handling.session.totals w.2.stage r refl c.in-Err.ensures.end
     c.in_ok-write_out-in-Err.ensures.writes.1
-    (through_all _ seen _ w.2.through c.in_ok-write_out-in-Err.ensures.writes.0) in
+    (through_all _ _ (g.A.Answers.tells c.args.sink.now) seen _ w.2.through c.in_ok-write_out-in-Err.ensures.writes.0) in
     (ends_so (λ records. Unit {0}) _ _ _ e.0 r.ended e.1 c.answer.ensures).0
 
 pub returns-then-not-branch-clause-fault : goal.returns-then-not-branch-clause-fault
@@ -118,7 +118,7 @@ returns-then-not-branch-clause-fault g c =
     let r = rw c.if-not-branch.true at c.in_ok-read_more-in-Err.ensures.ok in
     let e = ended c.handling.session.totals w.2.stage r refl c.in-Err.ensures.end
     c.in_ok-write_out-in-Err.ensures.writes.1
-    (through_all _ seen _ w.2.through c.in_ok-write_out-in-Err.ensures.writes.0) in
+    (through_all _ _ (g.A.Answers.tells c.args.sink.now) seen _ w.2.through c.in_ok-write_out-in-Err.ensures.writes.0) in
     (ends_so _ _ _ _ e.0 r.ended e.1 c.answer.ensures).1
 
 pub returns-in_err-read_more-in-Err-clause-fault : goal.returns-in_err-read_more-in-Err-clause-fault
@@ -129,4 +129,4 @@ returns-in_err-read_more-in-Err-clause-fault g c =
     goes_up _ _ faults.Read c.from_residual-in_err-read_more-in-Err.ensures.1 fault.0
     (gives_up c.handling.session.totals w.2.stage fault.1 refl c.in-Err.ensures.end
     c.in_ok-write_out-in-Err.ensures.writes.1
-    (through_all _ seen _ w.2.through c.in_ok-write_out-in-Err.ensures.writes.0))
+    (through_all _ _ (g.A.Answers.tells c.args.sink.now) seen _ w.2.through c.in_ok-write_out-in-Err.ensures.writes.0))

@@ -1,6 +1,6 @@
 use Rattle.gw_session.proofs.Common.{◌≡◌, ◌≤◌, List, [], ℕ, length, Record, TakesAllButWaiting, written_by}
 use Rattle.gw_session.proofs.Common.{WatchedTrace, InputsShown, nothing_counted, state_in, work_left}
-use Rattle.gw_session.proofs.Common.{Stage}
+use Rattle.gw_session.proofs.Common.{Stage, TookBut}
 use Rattle.gw_session.proofs.processing.process_records.Given as goal
 
 abbrev pub invariant-handling : goal.invariant-handling
@@ -8,6 +8,7 @@ invariant-handling g l = (octets : List ℕ) × (records : List Record) × recor
   stage : Stage l.kinds (g.R.Records.tells l.initial.source) (g.R.Records.tells l.source)
       (g.A.Answers.tells l.initial.sink) (g.A.Answers.tells l.sink) (g.R.Records.holds l.records) octets records;
   through : WatchedTrace (written_by g.O.PacketPorts.spells)
+      (TookBut (g.A.Answers.late l.initial.answers) (g.A.Answers.tells l.initial.sink).taken)
       (state_in l.initial.session.held.holds (g.O.PacketPorts.tells l.initial.packet_ports) l.initial.gateway
       nothing_counted)
       (state_in l.initial.session.held.holds (g.O.PacketPorts.tells l.packet_ports) l.gateway l.session.totals)

@@ -8,7 +8,7 @@ pub returns : goal.returns
 returns g c =
     let holds = ap (λ (h : HeldPackets). h.holds) c.new-session.ensures.held in
     let shown = InputsShown g.W.Watch.shows c.args.gateway.now c.args.watch.now c.process_records.new.watch in
-    let ok = rw holds at c.process_records.ensures.ok in
+    let ok = rw (c.at_once-answers.ensures.late, holds) at c.process_records.ensures.ok in
     let fault = rw (c.at_once-answers.ensures.late, holds) at c.process_records.ensures.fault in
     record {
       kept = c.process_records.ensures.kept;

@@ -23,6 +23,7 @@ loop-i-init g c = record {
       (heard_none _ _ _ _ _ _ _ _ c.begin_record.ensures.batch);
   late = refl;
   holds = refl;
+  still = λ on. refl;
   holding = c.begin_record.ensures.holding ∙ ap (λ (h : Bool). h && nat_le (length c.args.octets.now) 2048)
       (sym c.begin_record.ensures.holds);
 }
@@ -97,6 +98,10 @@ loop-i-preserved g c =
           c.in_ok-sent.sent c.loop-i.invariant.heard c.loop-i-test.true q (rw kept at c.push.ensures.items));
       late = c.in_ok-sent.ensures.late ∙ c.loop-i.invariant.late;
       holds = c.in_ok-sent.ensures.holds ∙ ap (λ (h : HeldPackets). h.holds) held ∙ c.loop-i.invariant.holds;
+      still = λ on.
+          let was = c.in_ok-sent.ensures.still (same_mode ∙ sym holding ∙ on) in
+          let kept_sends = c.receive_datagrams.ensures.comes.no_sends.1 in
+          rw (was.0, was.1, kept_sends) (c.loop-i.invariant.still (sym holding ∙ on));
       holding = holding ∙ c.loop-i.invariant.holding;
     }
 
@@ -121,8 +126,8 @@ returns-clause-exchanges g c =
       ap (λ (s : SessionBuffers). s.answer) o,
     ) at c.loop-i.invariant.heard in
     let sends = rw c.as_slice.ensures.value at c.send_held.ensures.sends in
-    let told = rw c.as_slice.ensures.value at c.send_held.ensures.acts in
-    heard_all c.args.self.now.held.holds c.args.octets.now _ c.loop-i.i c.loop-i.self.recorded heard end
+    let still = rw c.begin_record.ensures.tells at c.loop-i.invariant.still in
+    heard_all c.args.octets.now _ c.loop-i.i c.loop-i.self.recorded heard end
     (take_rest c.args.octets.now c.loop-i.self.recorded) c.record_octets.ensures.recorded refl
-    (rw c.begin_record.ensures.holds at c.loop-i.invariant.holding) sends c.send_held.ensures.passes
-    c.send_held.ensures.no_failure told
+    (rw c.begin_record.ensures.holds at c.loop-i.invariant.holding) still c.before_answer.ensures sends
+    c.send_held.ensures.passes c.send_held.ensures.no_failure

@@ -1,4 +1,4 @@
-use Rattle.gw_session.proofs.Common.{◌≡◌, length, world_in, world_with, packets_held, ◌&&◌, nat_le}
+use Rattle.gw_session.proofs.Common.{◌≡◌, true, length, gone_to, world_in, world_with, packets_held, ◌&&◌, nat_le}
 use Rattle.gw_session.proofs.Exchanging.{HeardSo}
 use Rattle.gw_session.proofs.exchange.SessionBuffers.exchange_all.Given as goal
 
@@ -14,5 +14,7 @@ invariant-loop-i g l = record {
       l.self.batch.items l.octets l.i l.self.recorded l.initial.self.answer.items l.self.answer.items;
   late : g.A.Answers.late l.answers ≡ g.A.Answers.late l.initial.answers;
   holds : l.self.held.holds ≡ l.initial.self.held.holds;
+  still : l.self.holding ≡ true → gone_to (g.O.PacketPorts.tells l.packet_ports) (g.A.Answers.tells l.sink)
+      ≡ gone_to (g.O.PacketPorts.tells l.initial.packet_ports) (g.A.Answers.tells l.initial.sink);
   holding : l.self.holding ≡ (l.initial.self.held.holds && nat_le (length l.octets) 2048);
 }

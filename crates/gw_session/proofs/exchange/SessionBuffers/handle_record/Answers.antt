@@ -32,24 +32,23 @@ returns-in-Datagram-clause-inputs g c =
     let takes : TakesEvent c.args.gateway.now c.give_shown-code.new.gateway
     (Event.Given circuit (Datagram body)) c.give_shown-code.result =
     λ config before h. ((given config before h).0, code config before h) in
-    rw c.in-Datagram.is (one_inputs _ (SessionInput.Datagram circuit body) _ c.give_shown-code.new.totals _ _ _ _ _ _ _
+    rw c.in-Datagram.is (one_inputs _ (SessionInput.Datagram circuit body) _ c.give_shown-code.new.totals _ _ _ _ _ _
     c.put_answer.result refl refl c.give_shown-code.ensures.shown (λ config before. refl) (λ config before. refl)
     (λ config before. refl) takes
     c.give_shown-code.ensures.others c.put_answer.ensures.counts
     (λ config before h. (given config before h).1)
-    c.put_answer.ensures.puts c.put.ensures.recorded c.put.ensures.acts c.put_answer.ensures.acts)
+    c.put_answer.ensures.puts c.log_record.ensures.recorded c.log_record.ensures.told)
 
 pub returns-in-Command-clause-inputs : goal.returns-in-Command-clause-inputs
 unfolding answer_to given_by dropped_for looks_at
 returns-in-Command-clause-inputs g c =
     let command = c.in-Command.command in
     rw c.in-Command.is (one_inputs _ (SessionInput.Command c.in-Command.circuit (octet_of_command command)) _
-    c.args.self.now.totals _ _ _ _ _ _ _ c.put_answer-in-Command.result refl refl (shown_other (λ config before. refl))
+    c.args.self.now.totals _ _ _ _ _ _ c.put_answer-in-Command.result refl refl (shown_other (λ config before. refl))
     (λ config before. refl)
     (λ config before. refl) (λ config before. refl) (rw (← command_again command) at c.give_command-code.ensures)
     refl c.put_answer-in-Command.ensures.counts (λ config before h. refl)
-    c.put_answer-in-Command.ensures.puts c.put-in-Command.ensures.recorded c.put-in-Command.ensures.acts
-    c.put_answer-in-Command.ensures.acts)
+    c.put_answer-in-Command.ensures.puts c.log_record-in-Command.ensures.recorded c.log_record-in-Command.ensures.told)
 
 pub returns-in-Codec-clause-inputs : goal.returns-in-Codec-clause-inputs
 unfolding answer_to given_by dropped_for looks_at
@@ -57,9 +56,8 @@ returns-in-Codec-clause-inputs g c =
     let codec = c.in-Codec.codec in
     rw c.in-Codec.is (one_inputs _ (SessionInput.Codec c.in-Codec.circuit
     (octet_of_codec codec) c.in-Codec.payload_type) _
-    c.args.self.now.totals _ _ _ _ _ _ _ c.put_answer-in-Codec.result refl refl (shown_other (λ config before. refl))
+    c.args.self.now.totals _ _ _ _ _ _ c.put_answer-in-Codec.result refl refl (shown_other (λ config before. refl))
     (λ config before. refl)
     (λ config before. refl) (λ config before. refl) (rw (← codec_again codec) at c.give_codec-code.ensures)
     refl c.put_answer-in-Codec.ensures.counts (λ config before h. refl)
-    c.put_answer-in-Codec.ensures.puts c.put-in-Codec.ensures.recorded c.put-in-Codec.ensures.acts
-    c.put_answer-in-Codec.ensures.acts)
+    c.put_answer-in-Codec.ensures.puts c.log_record-in-Codec.ensures.recorded c.log_record-in-Codec.ensures.told)

@@ -6,8 +6,8 @@ use Rattle.gw_session.proofs.exchange.SessionBuffers.handle_trunk_record.Goals a
 pub returns-clause-inputs : goal.returns-clause-inputs
 returns-clause-inputs g c =
     let fits : c.args.self.now.totals.octets < 2 ^ 64 = omega arith in
-    trunk_inputs _ _ _ _ c.saturating_add-self.result c.saturating_add-self-2.result _ c.put_octets.result
-    c.in_ok-exchange_all.ensures.exchanges c.before_answer.ensures refl c.clear.ensures
+    trunk_inputs _ _ _ c.saturating_add-self.result c.saturating_add-self-2.result _ c.put_octets.result
+    c.in_ok-exchange_all.ensures.exchanges refl refl c.clear.ensures
     c.as_slice.ensures.value c.saturating_add-self.ensures
     c.saturating_add-self-2.ensures fits c.put_octets.ensures.puts
 
