@@ -1,11 +1,7 @@
 -- Which datagrams of a circuit are repeated.
 use Rattle.std.specs.Prelude.{◌+◌, ◌%◌, ◌^◌, ◌==◌, ◌&&◌, nat_le, if◌then◌else◌, ℕ, zero, suc, Bool, false}
 use Rattle.std.specs.Prelude.{List, [], ◌∷◌, take, drop, length}
-use Rattle.byteorder.specs.Endian.{big_number}
-
--- the timestamp of a datagram (RFC 3550, 5.1)
-unfoldable pub timestamp_of : List ℕ → ℕ
-timestamp_of datagram = big_number 4 (take 4 (drop 4 datagram))
+use Rattle.rtp_packet.specs.Read.{header_of}
 
 -- a datagram has a fixed header (RFC 3550, 5.1) and at most the words of 30 ms behind it
 abbrev pub has_room : List ℕ → Bool
@@ -16,7 +12,7 @@ has_room datagram = nat_le 12 (length datagram) && nat_le (length datagram) 252
 abbrev pub continues : ℕ → List ℕ → List (List ℕ) → Bool
 continues words datagram [] = false
 continues words datagram (latest ∷ earlier) =
-    timestamp_of datagram == (timestamp_of latest + words) % 2 ^ 32
+    (header_of datagram).timestamp == ((header_of latest).timestamp + words) % 2 ^ 32
 
 -- a datagram in front of those before it, the latest first, if it follows them
 abbrev pub with_next : ℕ → List ℕ → List (List ℕ) → List (List ℕ)

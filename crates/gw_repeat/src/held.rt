@@ -4,11 +4,11 @@ ghost use Rattle.std.specs.Prelude.{◌≡◌, ◌<◌, ◌≤◌, ◌++◌, [],
 ghost use Rattle.std.specs.Prelude.{IfOk, IfSome, OnErr};
 ghost use Rattle.gw_state.specs.Memory.{MemoryIsRefused};
 ghost use Rattle.std.specs.VecDeque.{deque_capacity};
-ghost use Rattle.gw_repeat.specs.Repetition.{timestamp_of, continues, with_next};
+ghost use Rattle.gw_repeat.specs.Repetition.{continues, with_next};
 ghost use Rattle.gw_repeat.specs.Ports.{held_octets};
 
 use crate::packet::Packet;
-use byteorder::{BigEndian, ByteOrder};
+use rtp_packet::header_in;
 use std::alloc::{AllocError, Global};
 use std::collections::VecDeque;
 
@@ -16,15 +16,6 @@ use std::collections::VecDeque;
 #[derive(Drop)]
 pub(crate) struct RecentDatagrams {
     pub(crate) packets: VecDeque<Packet>,
-}
-
-// The timestamp of a datagram (RFC 3550, 5.1).
-#[tactic(auto, unfolding(crate::specs::Repetition::timestamp_of))]
-fn timestamp_of(datagram: &[u8]) -> u32
-    requires { 12 ≤ length datagram.now }
-    ensures { result ≡ timestamp_of datagram.now }
-{
-    BigEndian::read_u32(&datagram[4..8])
 }
 
 impl RecentDatagrams {
@@ -45,8 +36,10 @@ impl RecentDatagrams {
     {
         match self.packets.front() {
             Some(latest) => {
-                timestamp_of(datagram)
-                    == timestamp_of(latest.as_slice()).wrapping_add(u32::from(words))
+                header_in(datagram).timestamp
+                    == header_in(latest.as_slice())
+                        .timestamp
+                        .wrapping_add(u32::from(words))
             }
             None => false,
         }

@@ -1,15 +1,16 @@
 -- Worked rows of what is counted of a stream (RFC 3550, A.1, A.3 and A.8), by hand.
 use Rattle.std.proofs.Common.{◌≡◌, ◌*◌, ℕ, List, [], ◌∷◌, Some, None, Option, map, refl, true, false}
 use Rattle.gw_tell.specs.declared.counts.StreamCounts.{StreamCounts}
-use Rattle.gw_tell.specs.declared.header.RtpHeader.{RtpHeader}
+use Rattle.rtp_packet.specs.declared.Header.{Header}
 use Rattle.gw_tell.specs.Headers.{rtp_header}
+use Rattle.rtp_packet.specs.Read.{header_of}
 use Rattle.gw_tell.specs.Counts.{apart, jitter_after, lost_after, no_stream, reasons, refused_after, stream_after}
 use Rattle.gw_tell.specs.Counts.{transit_of}
 
 -- a packet of source 7 that comes at this sample
 abbrev packet : StreamCounts → ℕ → ℕ → ℕ → StreamCounts
 packet s sample sequence timestamp =
-    stream_after s (32 * sample) (record { sequence = sequence; timestamp = timestamp; source = 7 })
+    stream_after s (32 * sample) (record { payload_type = 8; sequence = sequence; timestamp = timestamp; ssrc = 7 })
 
 -- a stream of source 7
 abbrev known : ℕ → ℕ → ℕ → ℕ → StreamCounts
@@ -38,7 +39,7 @@ fifth = refl
 
 -- another source begins with no jitter, and the lost packets stay
 another_source : stream_after (known 14 4000 3 376) (32 * 9000)
-    (record { sequence = 500; timestamp = 8000; source = 8 })
+    (record { payload_type = 8; sequence = 500; timestamp = 8000; ssrc = 8 })
     ≡ record { source = Some 8; highest = 500; transit = 1000; lost = 3; jitter = 0 }
 another_source = refl
 
@@ -64,12 +65,13 @@ within = refl
 
 -- the header of a datagram
 header : rtp_header (128 ∷ 8 ∷ 1 ∷ 2 ∷ 0 ∷ 0 ∷ 1 ∷ 0 ∷ 222 ∷ 173 ∷ 190 ∷ 239 ∷ [])
-    ≡ record { sequence = 258; timestamp = 256; source = 3735928559 }
+    ≡ record { payload_type = 8; sequence = 258; timestamp = 256; ssrc = 3735928559 }
+unfolding header_of
 header = refl
 
 -- .. and of one that is too short
 no_header : rtp_header (128 ∷ 8 ∷ 1 ∷ 2 ∷ 0 ∷ 0 ∷ 1 ∷ 0 ∷ 222 ∷ 173 ∷ 190 ∷ [])
-    ≡ record { sequence = 0; timestamp = 0; source = 0 }
+    ≡ record { payload_type = 0; sequence = 0; timestamp = 0; ssrc = 0 }
 no_header = refl
 
 -- a datagram for a path that is not open counts for reason 20, the last

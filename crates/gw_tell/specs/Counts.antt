@@ -4,7 +4,7 @@ use Rattle.std.specs.Prelude.{Bool, true, false, if◌then◌else◌, nat_lt, Op
 use Rattle.gw_records.specs.Streams.{at_most}
 use Rattle.gw_tell.specs.declared.counts.DatagramCounts.{DatagramCounts}
 use Rattle.gw_tell.specs.declared.counts.StreamCounts.{StreamCounts}
-use Rattle.gw_tell.specs.declared.header.RtpHeader.{RtpHeader}
+use Rattle.rtp_packet.specs.declared.Header.{Header}
 use Rattle.gw_tell.specs.Headers.{rtp_header}
 
 -- the numbers of the reasons for which datagrams are refused (e1gw-session(5)), in the order of their counts
@@ -51,8 +51,8 @@ abbrev pub jitter_after : ℕ → ℕ → ℕ
 jitter_after jitter d = at_most (jitter - at_most (jitter + 8) / 16 + d)
 
 -- a stream behind a packet that was accepted at a place of the trunk
-abbrev pub stream_after : StreamCounts → ℕ → RtpHeader → StreamCounts
-stream_after s place h = if is_of s.source h.source
+abbrev pub stream_after : StreamCounts → ℕ → Header → StreamCounts
+stream_after s place h = if is_of s.source h.ssrc
     then record s {
       highest = highest_after s.highest h.sequence;
       transit = transit_of place h.timestamp;
@@ -60,7 +60,7 @@ stream_after s place h = if is_of s.source h.source
       jitter = jitter_after s.jitter (apart s.transit (transit_of place h.timestamp));
     }
     else record s {
-      source = Some h.source;
+      source = Some h.ssrc;
       highest = h.sequence;
       transit = transit_of place h.timestamp;
       jitter = 0;

@@ -9,7 +9,7 @@ use Rattle.gw_switch.specs.declared.Alarms.{Alarms}
 use Rattle.gw_listing.specs.Row.{row}
 use Rattle.gw_records.specs.Records.{Record}
 use Rattle.gw_tell.specs.declared.counts.DatagramCounts.{DatagramCounts}
-use Rattle.gw_tell.specs.declared.header.RtpHeader.{RtpHeader}
+use Rattle.rtp_packet.specs.declared.Header.{Header}
 use Rattle.gw_tell.specs.Headers.{rtp_header}
 
 -- a space and a number in decimal
@@ -35,8 +35,8 @@ alarms_line a = number_line (codes "alarms")
     (flag a.frame ∷ flag a.multiframe ∷ flag a.remote_frame ∷ flag a.remote_multiframe ∷ [])
 
 -- the numbers of a header
-abbrev pub header_numbers : RtpHeader → List ℕ
-header_numbers h = h.sequence ∷ h.timestamp ∷ h.source ∷ []
+abbrev pub header_numbers : Header → List ℕ
+header_numbers h = h.sequence ∷ h.timestamp ∷ h.ssrc ∷ []
 
 -- the line of a record that was answered with this code; octets of the trunk have none
 abbrev pub event_line : Record → ℕ → List ℕ

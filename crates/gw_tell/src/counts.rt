@@ -5,8 +5,9 @@ ghost use Rattle.gw_tell.specs.Counts.{AreCountedAt, IsCounted, counts_at, told_
 ghost use Rattle.gw_tell.specs.Counts.{refused_after, is_of, highest_after, lost_after, transit_of, apart};
 ghost use Rattle.gw_tell.specs.Counts.{jitter_after, stream_after};
 
-use crate::header::{RtpHeader, rtp_header};
+use crate::header::rtp_header;
 use g704_cas::CircuitNo;
+use rtp_packet::Header;
 
 // The numbers of the reasons for which datagrams are refused, in the order of their counts.
 const REASONS: [u8; 12] = [1, 2, 3, 4, 5, 11, 12, 13, 14, 15, 16, 20];
@@ -116,13 +117,13 @@ fn jitter_after(jitter: u64, d: u64) -> u64
 }
 
 // A stream behind a packet that was accepted at a place of the trunk.
-fn stream_after(s: &StreamCounts, place: u64, header: &RtpHeader) -> StreamCounts
+fn stream_after(s: &StreamCounts, place: u64, header: &Header) -> StreamCounts
     ensures { result ≡ stream_after s.now place header.now }
 {
     let transit = transit_of(place, header.timestamp);
-    if !is_of(s.source, header.source) {
+    if !is_of(s.source, header.ssrc) {
         return StreamCounts {
-            source: Some(header.source),
+            source: Some(header.ssrc),
             highest: header.sequence,
             transit,
             lost: s.lost,

@@ -61,7 +61,7 @@ pub fn push_event(text: &mut Text, head: &RecordHead, body: &[u8], code: u8)
                 code,
                 u64::from(header.sequence),
                 u64::from(header.timestamp),
-                u64::from(header.source),
+                u64::from(header.ssrc),
             ];
             push_line(text, b"datagram", &numbers);
         }

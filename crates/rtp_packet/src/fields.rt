@@ -68,9 +68,9 @@ pub(crate) fn marker_in(octets: &[u8]) -> bool
     octets[1] & MARKER_BIT != 0
 }
 
-// The fields of a header.
+/// The fields of the header of a datagram, which has one: it is not looked at what else is wrong.
 #[tactic(auto, unfolding(crate::specs::Read::header_of))]
-pub(crate) fn header_in(octets: &[u8]) -> Header
+pub fn header_in(octets: &[u8]) -> Header
     requires { 12 ≤ length octets.now }
     ensures { result ≡ header_of octets.now }
 {
