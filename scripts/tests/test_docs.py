@@ -30,12 +30,6 @@ fn two_and_two(rt: HostRuntime) {
     assert_eq!(rt; line(), " 1 outgoing idle");
 }
 """
-PROVED = """# What is proved
-
-| crate | what its clauses say |
-|---|---|
-| `small` | a number is doubled |
-"""
 
 
 class Tree(FolderCase):
@@ -49,7 +43,6 @@ class Tree(FolderCase):
         self.write('crates/small/src/lib.rt', LIB)
         self.write('crates/small/src/tests.rt', TESTS)
         self.write('crates/small/must-fail/double_is_three.edit', '')
-        self.write('docs/PROVED.md', PROVED)
         self.write('driver/e1gw/calls.py', '"""A line for each call: as CSV.\n\nMore of it."""\n')
 
     def test_all_as_it_should_be(self) -> None:
@@ -60,13 +53,12 @@ class Tree(FolderCase):
         self.assertEqual([line.split(': ')[0] for line in self.docs.wrong_examples()],
                          ['crates/small/src/lib.rt:5', 'crates/small/src/lib.rt:12'])
 
-    def test_crate_without_a_section_wrong_bodies_or_a_head(self) -> None:
+    def test_crate_without_wrong_bodies_or_a_head(self) -> None:
         self.write('crates.txt', 'small:\nbare: small arrayvec\nsmall_tests: small\n')
         self.write('crates/bare/src/lib.rt', '//! No end\n\npub fn f() {}\n')
         self.write('crates/small/must-fail/three.edit', '')
         self.assertEqual([*self.docs.wrong_names(), *self.docs.wrong_heads()], [
-            'crates/small: the wrong body three: its name is no sentence of words',
-            'docs/PROVED.md: no words on bare', 'crates/bare: no wrong body',
+            'crates/small: the wrong body three: its name is no sentence of words', 'crates/bare: no wrong body',
             'crates/bare/src/lib.rt: does not begin with a sentence'])
 
     def test_module_without_a_head(self) -> None:
