@@ -1,21 +1,27 @@
-"""Gives commands to trunks in service: e1gw-ctl PATH COMMAND.., e1gw-ctl --all COMMAND.., e1gw-ctl
+"""Gives commands to trunks in service, and prints their answers.
 
-PATH is the socket of --control of e1gw-watch, or the name of a trunk, whose socket is /run/e1gw/NAME/control.
-COMMAND is one of e1gw-watch(1): seize N, clear N, answer N, clear-back N, codec N CODEC TYPE, status, status N, status
-json, events, role, promote, demote, move, reload, quit, help. N may be several circuits: seize 1-4,7.
+  e1gw-ctl PATH COMMAND..     to one trunk: PATH is its control socket, or its name, for /run/e1gw/NAME/control
+  e1gw-ctl PATH               commands from standard input, a line each
+  e1gw-ctl --all COMMAND..    to each trunk of this machine
+  e1gw-ctl                    a line for each trunk of this machine
 
-block N takes circuits out of service once their calls have ended, or --now; unblock N takes that back. wait N STATE
-prints which circuits are not in this state until all are, or for --for SECONDS. why N says what e1gw-picture finds of a
-circuit in the last 30 s that were recorded. calls lists those of the file of --calls that --last, --circuit, --from and
---to select, and those that go on, each with the id that e1gw-call takes, and sums. outages lists those between --from
-and --to, by the file of --json. report FILE writes a tar with version, status, options, journal and the last calls, and
---no-addresses other words for hosts. move NODE, as root, has Pacemaker move the trunk. With a PATH and no command,
-commands are read from standard input, a line each. --all gives the command to each trunk of this machine. Without any
-word there is a line for each trunk of this machine.
+Commands of e1gw-watch(1); N may be several circuits, as 1-4,7:
+  status, status N, status json, events
+  seize N, clear N, answer N, clear-back N
+  block N, unblock N          out of service once their calls have ended, or --now; and back
+  codec N CODEC TYPE [save]   until the call ends, or saved in the configuration
+  reload, role, promote, demote, move, quit, help
 
-codec N CODEC TYPE save also writes it into the configuration, and reloads that.
+Others:
+  wait N STATE                prints which circuits are not in this state, until all are, or --for SECONDS
+  why N                       what e1gw-picture finds of a circuit in the last 30 s that were recorded
+  calls                       those that --last, --circuit, --from and --to select, each with the id that e1gw-call
+                              takes, and sums
+  outages                     those between --from and --to
+  report FILE                 a tar of version, status, options, journal and the last calls; --no-addresses hides hosts
+  move NODE                   as root, has Pacemaker move the trunk
 
-A time is 14:03, yesterday, 'yesterday 14:03' or 2026-11-23T07:30, in local time; calls are listed in local time, too.
+A TIME is 14:03, yesterday, 'yesterday 14:03' or 2026-11-23T07:30, in local time.
 
 Statuses: 0 all was done; 1 a trunk refused something, or does not answer; 2 the command line, or nobody listens at
 PATH; 3 circuits are not in the state.
@@ -239,7 +245,7 @@ def main(patience: float = PATIENCE) -> None:
     parser.add_argument('--now', action='store_true', default=None, help='block: calls are cleared')
     parser.add_argument('--when-idle', action='store_true', default=None, help='reload: circuits in a call wait for '
                         'its end')
-    parser.add_argument('--no-addresses', action='store_true', default=None, help='report: hosts are other words')
+    parser.add_argument('--no-addresses', action='store_true', default=None, help='report: hosts are replaced')
     parser.add_argument('--for', metavar='SECONDS', type=number(0, 10**6, float), help='wait: no longer than that')
     when = checked(lambda text: local_second(text, time.time()), 'a time such as 14:03, yesterday or 2026-11-23T07:30')
     parser.add_argument('--from', metavar='TIME', type=when, help='calls, outages: those that ended after TIME')

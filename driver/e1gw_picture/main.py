@@ -29,8 +29,8 @@ thirty circuits over time with their datagrams and commands, each troubled circu
 counts with their causes, and anomalies in words.
 
 SESSION is the session given to the gateway (e1gw-session(5)): a file, - for standard input, or a folder of sessions
-kept by e1gw-watch. What the gateway did, `e1gw replay` answers and tells. --capture takes the datagrams from a
-capture (pcap or pcapng), by the ports of the configuration.'''
+kept by e1gw-watch. What the gateway did comes from `e1gw replay`. --capture takes the datagrams from a capture (pcap or
+pcapng), by the ports of the configuration.'''
 
 
 def span(text: str) -> int:

@@ -4,14 +4,14 @@
 
 ID is the last field of the call's line in the file of e1gw-watch --calls; e1gw-ctl TRUNK calls lists it. KEPT is the
 folder of --session with --keep, in which the file calls.csv is, or --calls names it; by default all folders of
-/var/lib/e1gw are looked at. FOLDER, by default ID, gets
+/var/lib/e1gw are searched. FOLDER, by default ID, gets
 
   ID.wav     the speech: on the left what the trunk said, on the right what it was sent of the network
   ID.pcap    the packets both ways, as e1gw-pcap writes them
   ID.csv     the line signals, the line's states and the commands, with their times
   ID.html    the picture of the call (e1gw-picture), as a whole and part by part, with its sound, which is ID.wav
 
-all from a second before the seizure to a second behind the end. A line says what is not kept any more.
+all from a second before the seizure to a second after the end. A line says what is no longer kept.
 
 Status 0 if all of the call is there; 1 if a part of it is not, or nothing; 2 for the command line."""
 

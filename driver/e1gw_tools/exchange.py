@@ -1,11 +1,11 @@
-"""An exchange at a Unix socket, in the place of a card and a trunk, to try e1gw-trunk with. Needs python3 alone.
+"""Simulates an exchange at a Unix socket, in place of a card, to try e1gw-trunk with. Needs python3 alone.
 
   e1gw-exchange [--again] PATH
 
-It waits for one who connects, and then sends and receives a trunk of 2048 kbit/s in real time. A circuit that is
-seized it acknowledges after 20 ms and answers after a second; what it hears on a circuit it sends back on it. Typed
-lines: seize N and clear N, for circuits on which the exchange calls. It prints each line signal that it sees, by its
-bits a and b, and ends when the other end does; with --again it then waits for the next one, all circuits idle.
+It waits for a client, and then sends and receives a trunk of 2048 kbit/s in real time. It acknowledges a seizure after
+20 ms, answers after a second, and sends back the speech that it receives. Typed lines are seize N and clear N, for
+circuits on which the exchange calls. It prints bits a and b of each line signal received, and ends when the client
+does; with --again it then waits for the next client, with all circuits idle.
 """
 import argparse
 import errno

@@ -13,8 +13,8 @@ MOST_PATH, LONGEST = 107, 'program.new'     # octets of the path of a socket; th
 HELP = f'''usage: {NAME} --config FILE (--in FILE --out FILE | --unix PATH | --tcp HOST:PORT | --satop ENDS) [OPTION..]
                   [-- WATCH_OPTION..]
 
-Holds an E1 trunk: it opens the line, binds the circuits' sockets, and keeps a program on them that carries it, e1gw(1).
-If it ends, the program ends with it, and the next one goes on with all calls.
+Holds an E1 trunk in service: it opens the line, binds the circuits' sockets, and keeps the program e1gw(1) running on
+them. If it dies the program ends with it, and the next one goes on with all calls.
 
 What it needs:
   --config FILE         the configuration, e1gw.toml(5)
@@ -24,25 +24,25 @@ What it needs:
   --satop ENDS          SAToP (RFC 4553) over UDP: LOCAL:PORT,PEER:PORT, and options of e1gw satop as ,size=512,jitter=8
 
 The line:
-  --reopen              opens a trunk that ends or fails again, each second
-  --clear               the device gives time slots 1 to 31 alone
+  --reopen              reopens a trunk that ends or fails, each second
+  --clear               the device carries time slots 1 to 31 only
   --blocks FRAMES,N     of a DAHDI card: frames of a block, and how many it holds each way [default: 16,16]
   --align               octets of the trunk may begin at any bit
-  --crc4                CRC-4: it is sent, and counted each second in what comes
+  --crc4                sends CRC-4 multiframes, and checks those received each second
 
 Calls:
   --senders WHOSE       whose datagrams are received, e1gw(1): any, first, host or peer [default: host]
-  --repeat N            sends each datagram again behind the N-th after it, 0 to 8 [default: 0, never]
-  --seizure-wait MS     a seizure that is not acknowledged is released then, 200 to 8000 [default: 200]
+  --repeat N            sends each datagram again after the N-th that follows it, 0 to 8 [default: 0, never]
+  --seizure-wait MS     releases a seizure that is not acknowledged in this time, 200 to 8000 [default: 200]
 
 Its name, files and watcher:
   --name NAME           the name of the trunk in files [default: that of FILE]
   --program E1GW        the program [default: that of this repository, or e1gw]
   --folder DIR          where its sockets and its log are, in memory [default: RUNTIME_DIRECTORY, or {MEMORY}]
-  --state FILE          the state is saved there at the end, and loaded at the start if it is there
-  --standby             does not begin with the trunk, but once it is to take it
-  --alone               starts no e1gw-watch(1); else one is started, too, where no systemd is, and has the options
-                        behind --
+  --state FILE          saves the state there at the end, and loads it at the start if it is there
+  --standby             starts without the trunk, and waits until it is told to take it
+  --alone               starts no e1gw-watch(1), which is otherwise started too, with the options behind --, unless
+                        systemd does so
 
 Signals: SIGHUP reload; SIGUSR2 another process in place of this one; SIGTERM, SIGINT end.
 Statuses: 0 ended as asked, or with the trunk's input; 1 the trunk or the program failed; 2 the command line or the

@@ -1,10 +1,10 @@
-"""Watches a trunk that e1gw-trunk(1) holds, and shows it: status, events, metrics and pages, commands of e1gw-ctl(1),
-lines of calls, recordings, and what is done with calls by itself.
+"""Shows and steers a trunk that e1gw-trunk(1) holds: status, events, metrics, pages, commands of e1gw-ctl(1), a line
+for each call, and recordings.
 
-It may end, be killed or be started again at any time: no call waits for it, and the next one goes on where it was.
+It may end, be killed or be restarted at any time: no call waits for it, and the next one goes on where it was.
 
 Signals: SIGTERM, SIGINT end.
-Statuses: 0 ended as asked, or with the trunk; 1 what may be tried again; 2 the command line, or another one watches
+Statuses: 0 ended as asked, or with the trunk; 1 a failure that may pass; 2 the command line, or another one watches
 the trunk.
 """
 from __future__ import annotations

@@ -49,21 +49,23 @@ def add_reports(words: argparse._ArgumentGroup) -> None:
 
 def add_kept(words: argparse._ArgumentGroup) -> None:
     """Those of what is kept of the trunk, and of calls."""
-    words.add_argument('--session', metavar='FILE', help='keeps all that the program takes, for e1gw replay and check')
+    words.add_argument('--session', metavar='FILE', help='records all that the program receives, for e1gw replay and '
+                       'check')
     words.add_argument('--keep', type=checked(seconds_of), metavar='TIME',
-                       help='--session is a folder for the last 30m, 1h, 2d, in files of a twelfth of that')
+                       help='--session is a folder for the last 30m, 1h, 2d, in twelve to 120 files')
     words.add_argument('--gap', type=number(20, 10_000), default=100, metavar='MS',
-                       help='lost octets of MS milliseconds restart the playout of open calls [default: 100]')
+                       help='resynchronises the jitter buffers of calls if octets of MS milliseconds were lost '
+                       '[default: 100]')
     words.add_argument('--calls', metavar='FILE', help='a line of CSV for each call; ten files of 10 MiB are kept')
     words.add_argument('--dark', type=number(0, 86_400, float), metavar='SECONDS',
-                       help='clears the calls of a trunk that has been in alarm for so long [default: never]')
+                       help='clears the calls of a trunk that has been in alarm for that long [default: never]')
 
 
 def add_pair(words: argparse._ArgumentGroup) -> None:
     """The options of a trunk that two machines have."""
-    words.add_argument('--feed', metavar='ADDRESS:PORT', help='where the other machine is fed the log of the trunk')
-    words.add_argument('--fed-from', metavar='ADDRESS:PORT', help='--feed of the other machine, from where this one is '
-                       'fed while it stands by')
+    words.add_argument('--feed', metavar='ADDRESS:PORT', help='listens there, and feeds the log to the other machine')
+    words.add_argument('--fed-from', metavar='ADDRESS:PORT', help='--feed of the other machine, which feeds this one '
+                       'while it stands by')
     add_tls(words.add_mutually_exclusive_group(), 'machine')
 
 
