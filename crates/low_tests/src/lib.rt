@@ -28,6 +28,8 @@ mod gw_filter_tests;
 #[cfg(test)]
 mod gw_listing_tests;
 #[cfg(test)]
+mod log_files_tests;
+#[cfg(test)]
 mod q421_line_tests;
 #[cfg(test)]
 mod rtp_pack_tests;
