@@ -45,7 +45,7 @@ all-let-in gateway turns first now full (streams, count, all) =
     record { streams = streams; last = now; all = all; ends = inl (count ∙ full, refl) }
 
 -- Eight places that are open are all free, and all have room.
-pub all_open : {S : Type 0} {m : _} (a b c d e f g h : ClientSlot S m) → IsOpen a → IsOpen b → IsOpen c → IsOpen d
+pub all_open : (a b c d e f g h : ClientSlot) → IsOpen a → IsOpen b → IsOpen c → IsOpen d
     → IsOpen e → IsOpen f → IsOpen g → IsOpen h → AllFree (a ∷ b ∷ c ∷ d ∷ e ∷ f ∷ g ∷ h ∷ [])
     × AllHaveRoom (a ∷ b ∷ c ∷ d ∷ e ∷ f ∷ g ∷ h ∷ [])
 all_open a b c d e f g h a' b' c' d' e' f' g' h' = (free, room)

@@ -4,7 +4,6 @@ use Rattle.mio.specs.declared.net.uds.stream.UnixStream.{UnixStream}
 use Rattle.e1_g711.specs.declared.Law.{Law}
 use Rattle.gw_switch.specs.declared.gateway.Gateway.{Gateway}
 use Rattle.gw_records.specs.Records.{Record}
-use Rattle.gw_trunk.specs.System.{SystemWrote}
 use Rattle.gw_tell.specs.declared.teller.Teller.{Teller}
 use Rattle.gw_tell.specs.Clients.{at, AllAreHeard, AllAreTold, AllFree, AllTaken, OnlyAt, Seats}
 use Rattle.gw_tell.specs.declared.gateway_status.GatewayStatus.{GatewayStatus}
@@ -50,7 +49,7 @@ pub record HasPlace (gateway : Gateway) (stream : UnixStream) (t t' : Teller) : 
   pub was_free : at t.places place ≡ None
   pub is : GatewayStatus
   pub shows : Shows is gateway
-  pub seated : Seats SystemWrote stream t.place (whole_state t.law t.place is t.counts t.seized)
+  pub seated : Seats stream t.place (whole_state t.law t.place is t.counts t.seized)
       (at t'.places place)
   pub others : OnlyAt place t.places t'.places
   pub same : KeepsPlace t t'

@@ -1,6 +1,6 @@
 //! When a client of `--tell` gets lines, and when it is disconnected (`Client`).
 
-ghost use Rattle.std.specs.Prelude.{◌≡◌, ◌⊎◌, ◌≤◌, ◌++◌, ℕ, List, [], Some, length, take, drop};
+ghost use Rattle.std.specs.Prelude.{◌≡◌, ◌⊎◌, ◌≤◌, ◌++◌, [], length, take, drop};
 ghost use Rattle.std.specs.Prelude.{IfOk, OnOk, OnErr};
 ghost use Rattle.gw_tell.specs.Backlog.{waiting};
 ghost use Rattle.gw_tell.specs.Connections.{HasLeft, IsThere, WaitsShort, WriteFails};
@@ -8,7 +8,8 @@ ghost use Rattle.gw_tell.specs.Lines.{at_line};
 
 use crate::backlog::Backlog;
 use gw_records::{AtStart, Log};
-use gw_trunk::ClientStream;
+use gw_trunk::{read_client, write_client};
+use mio::net::UnixStream;
 use std::io::ErrorKind;
 
 // How much is read at once of what a client sends, which nobody looks at.
@@ -18,48 +19,40 @@ const ROOM_LEN: usize = 256;
 #[derive(Clone, Copy)]
 pub struct Away;
 
-/// A connection that is sent what changes. If it is known what it had at its start, it now has that, followed
-/// by the octets that it took.
+/// A connection that is sent what changes.
 #[derive(Drop)]
-pub struct Client<S: ClientStream> {
-    stream: S,
+pub struct Client {
+    stream: UnixStream,
     /// The place of the last `at` that it got.
     pub last: u64,
-    start: AtStart<S>,
+    start: AtStart<UnixStream>,
     /// The octets that it took.
     pub got: Log,
     /// What it was sent behind these, and has not taken yet.
     pub waits: Backlog,
-    ghost holds: { (before : List ℕ) → S.contents start.value ≡ Some before
-        → S.contents stream ≡ Some (before ++ got.octets) },
 }
 
 // Writes octets, and returns how many the connection takes now.
-fn write_now<S: ClientStream>(stream: &mut S, got: &mut Log, octets: &[u8]) -> Result<usize, Away>
+fn write_now(stream: &mut UnixStream, got: &mut Log, octets: &[u8]) -> Result<usize, Away>
     ensures bound { IfOk result (λ n. n ≤ length octets.now) }
     ensures got { IfOk result (λ n. got.new.octets ≡ got.old.octets ++ take n octets.now) }
     ensures none { OnErr result (got.new.octets ≡ got.old.octets) }
-    ensures holds { (before : List ℕ) → S.contents stream.old ≡ Some (before ++ got.old.octets)
-        → S.contents stream.new ≡ Some (before ++ got.new.octets) }
-    ensures left { IfOk result (λ n. WaitsShort S.has_written stream.new (drop n octets.now)) }
-    ensures err { OnErr result (WriteFails S.has_written stream.new) }
+    ensures left { IfOk result (λ n. WaitsShort stream.new (drop n octets.now)) }
+    ensures err { OnErr result (WriteFails stream.new) }
 {
-    match stream.write_now(octets) {
-        Ok(n) => {
-            got.append(octets, n);
-            Ok(n)
-        }
+    match write_client(stream, got, octets) {
+        Ok(n) => Ok(n),
         Err(ErrorKind::WouldBlock | ErrorKind::Interrupted) => Ok(0),
         Err(_) => Err(Away),
     }
 }
 
-impl<S: ClientStream> Client<S> {
+impl Client {
     ghost use Rattle.gw_tell.specs.Clients.{sent, DoesNotTake, IsOffered};
     ghost use Rattle.gw_tell.specs.Reports.{sent_to, last_after};
 
     /// A client that is to get the whole state at a place, and room for what waits for it.
-    pub fn new(stream: S, place: u64, mut room: Backlog) -> Client<S>
+    pub fn new(stream: UnixStream, place: u64, mut room: Backlog) -> Client
         ensures sent { sent result ≡ [] }
         ensures last { result.last ≡ place }
         ensures start { result.start.value ≡ stream }
@@ -86,8 +79,8 @@ impl<S: ClientStream> Client<S> {
         ensures sent { sent self.new ≡ sent self.old }
         ensures last { self.new.last ≡ self.old.last }
         ensures start { self.new.start ≡ self.old.start }
-        ensures offered { OnOk result (IsOffered S.has_written self.new) }
-        ensures err { OnErr result (WriteFails S.has_written self.new.stream) }
+        ensures offered { OnOk result (IsOffered self.new) }
+        ensures err { OnErr result (WriteFails self.new.stream) }
     {
         if self.waits.octets().is_empty() {
             return Ok(());
@@ -104,9 +97,9 @@ impl<S: ClientStream> Client<S> {
         ensures last { self.new.last ≡ self.old.last }
         ensures start { self.new.start ≡ self.old.start }
         ensures waits { self.new.waits ≡ self.old.waits }
-        ensures left { IfOk result (λ n. IsOffered S.has_written self.old → WaitsShort S.has_written
+        ensures left { IfOk result (λ n. IsOffered self.old → WaitsShort
             self.new.stream (waiting self.old.waits ++ drop n octets.now)) }
-        ensures err { OnErr result (WriteFails S.has_written self.new.stream) }
+        ensures err { OnErr result (WriteFails self.new.stream) }
     {
         if !self.waits.octets().is_empty() || octets.is_empty() {
             return Ok(0);
@@ -120,8 +113,8 @@ impl<S: ClientStream> Client<S> {
         ensures ok { OnOk result (sent self.new ≡ sent self.old ++ octets.now) }
         ensures last { self.new.last ≡ self.old.last }
         ensures start { self.new.start ≡ self.old.start }
-        ensures offered { OnOk result (IsOffered S.has_written self.new) }
-        ensures err { OnErr result (DoesNotTake S.has_written self.new (sent self.old ++ octets.now)) }
+        ensures offered { OnOk result (IsOffered self.new) }
+        ensures err { OnErr result (DoesNotTake self.new (sent self.old ++ octets.now)) }
     {
         self.flush()?;
         let taken = self.take_now(octets)?;
@@ -140,8 +133,8 @@ impl<S: ClientStream> Client<S> {
             ≡ sent self.old ++ sent_to self.old.last place (drop front text.now)) }
         ensures last { self.new.last ≡ last_after self.old.last place (drop front text.now) }
         ensures start { self.new.start ≡ self.old.start }
-        ensures offered { OnOk result ((drop front text.now ≡ []) ⊎ IsOffered S.has_written self.new) }
-        ensures err { OnErr result (DoesNotTake S.has_written self.new
+        ensures offered { OnOk result ((drop front text.now ≡ []) ⊎ IsOffered self.new) }
+        ensures err { OnErr result (DoesNotTake self.new
             (sent self.old ++ sent_to self.old.last place (drop front text.now))) }
     {
         if text.len() == front {
@@ -159,13 +152,13 @@ impl<S: ClientStream> Client<S> {
         ensures sent { sent self.new ≡ sent self.old }
         ensures last { self.new.last ≡ self.old.last }
         ensures start { self.new.start ≡ self.old.start }
-        ensures offered { OnOk result (IsOffered S.has_written self.new) }
-        ensures ok { OnOk result (IsThere (S.has_read self.new.stream)) }
-        ensures err { OnErr result (HasLeft S.has_read S.has_written self.new.stream) }
+        ensures offered { OnOk result (IsOffered self.new) }
+        ensures ok { OnOk result (IsThere self.new.stream) }
+        ensures err { OnErr result (HasLeft self.new.stream) }
     {
         self.flush()?;
         let mut room = [0u8; ROOM_LEN];
-        match self.stream.read_now(&mut room) {
+        match read_client(&mut self.stream, &mut Log::new(), &mut room) {
             Ok(0) => Err(Away),
             Ok(_) | Err(ErrorKind::WouldBlock) => Ok(()),
             Err(_) => Err(Away),

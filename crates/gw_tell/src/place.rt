@@ -5,22 +5,22 @@ ghost use Rattle.gw_tell.specs.Lines.{at_line};
 
 use crate::backlog::Backlog;
 use crate::client::Client;
-use gw_trunk::ClientStream;
+use mio::net::UnixStream;
 use std::alloc::Global;
 use std::io::{self, ErrorKind};
 
 /// A place: its client, if it has one, otherwise the room for what waits for the next one.
 #[derive(Drop)]
-pub struct ClientSlot<S: ClientStream> {
-    pub client: Option<Client<S>>,
+pub struct ClientSlot {
+    pub client: Option<Client>,
     pub room: Option<Backlog>,
 }
 
-impl<S: ClientStream> ClientSlot<S> {
+impl ClientSlot {
     ghost use Rattle.gw_tell.specs.Clients.{Gets, HasRoom, IsTold, IsHeard, Seats};
 
     /// A free place, with its room. The error is that memory was refused.
-    pub fn open(alloc: Global) -> io::Result<ClientSlot<S>>
+    pub fn open(alloc: Global) -> io::Result<ClientSlot>
         ensures free { IfOk result (λ p. p.client ≡ None) }
         ensures room { IfOk result HasRoom }
     {
@@ -36,11 +36,11 @@ impl<S: ClientStream> ClientSlot<S> {
     /// Gives the free place to a client that connects at this octet of the trunk, and sends it these octets.
     /// If it does not take them, the place stays free.
     #[tactic(auto, unfolding(crate::specs::Clients::Seats))]
-    pub fn seat(&mut self, stream: S, at: u64, octets: &[u8])
+    pub fn seat(&mut self, stream: UnixStream, at: u64, octets: &[u8])
         requires free { self.old.client ≡ None }
         requires room { HasRoom self.old }
         ensures room { HasRoom self.new }
-        ensures seats { Seats S.has_written stream at octets.now self.new.client }
+        ensures seats { Seats stream at octets.now self.new.client }
     {
         let Some(room) = self.room.take() else {
             return;
@@ -67,7 +67,7 @@ impl<S: ClientStream> ClientSlot<S> {
         requires front { front ≤ length text.now }
         requires line { take front text.now ≡ at_line at }
         ensures room { HasRoom self.old → HasRoom self.new }
-        ensures client { IsTold S.has_written self.old.client self.new.client at (drop front text.now) }
+        ensures client { IsTold self.old.client self.new.client at (drop front text.now) }
     {
         let Some(client) = &mut self.client else {
             return;
@@ -80,7 +80,7 @@ impl<S: ClientStream> ClientSlot<S> {
     /// Sends its client these octets, and disconnects it if it does not take them.
     pub fn give(&mut self, octets: &[u8])
         ensures room { HasRoom self.old → HasRoom self.new }
-        ensures client { Gets S.has_written self.old.client self.new.client octets.now }
+        ensures client { Gets self.old.client self.new.client octets.now }
     {
         let Some(client) = &mut self.client else {
             return;
@@ -93,7 +93,7 @@ impl<S: ClientStream> ClientSlot<S> {
     /// Writes what waits for its client, reads what it sent, and disconnects it if it has left.
     pub fn listen(&mut self)
         ensures room { HasRoom self.old → HasRoom self.new }
-        ensures client { IsHeard S.has_read S.has_written self.old.client self.new.client }
+        ensures client { IsHeard self.old.client self.new.client }
     {
         let Some(client) = &mut self.client else {
             return;

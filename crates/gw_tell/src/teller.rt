@@ -3,7 +3,6 @@
 ghost use Rattle.std.specs.Prelude.{◌≡◌, ◌<◌, ◌≤◌, ℕ, List, true, false, length, take, drop};
 ghost use Rattle.std.specs.Prelude.{IfSome, IfNone, IfOk, None};
 ghost use Rattle.gw_records.specs.Records.{named};
-ghost use Rattle.gw_trunk.specs.System.{SystemWrote};
 ghost use Rattle.gw_tell.specs.Lines.{at_line, end_line};
 ghost use Rattle.gw_tell.specs.Clients.{AllAreHeard, AllAreTold, AllFree, AllHaveRoom, AllTaken, at};
 ghost use Rattle.gw_tell.specs.Clients.{Gets, IsOpen};
@@ -40,7 +39,7 @@ const LOOK: u64 = 8192;
 #[derive(Drop)]
 pub struct Teller {
     door: Door,
-    places: [ClientSlot<UnixStream>; 8],
+    places: [ClientSlot; 8],
     law: Law,
     // The octets of the trunk that the session has acted on.
     place: u64,
@@ -55,7 +54,7 @@ pub struct Teller {
 }
 
 // Sends all clients the lines of a text.
-fn tell_all(places: &mut [ClientSlot<UnixStream>; 8], text: &[u8], front: usize, at: u64)
+fn tell_all(places: &mut [ClientSlot; 8], text: &[u8], front: usize, at: u64)
     requires front { front ≤ length text.now }
     requires line { take front text.now ≡ at_line at }
     ensures told { AllAreTold places.old places.new at (drop front text.now) }
@@ -67,7 +66,7 @@ fn tell_all(places: &mut [ClientSlot<UnixStream>; 8], text: &[u8], front: usize,
 }
 
 // Whether all places for clients are free.
-fn are_free(places: &[ClientSlot<UnixStream>; 8]) -> bool
+fn are_free(places: &[ClientSlot; 8]) -> bool
     ensures free { result ≡ true → AllFree places.now }
     ensures taken { result ≡ false → AllFree places.now → ⊥ }
 {
@@ -80,7 +79,7 @@ fn are_free(places: &[ClientSlot<UnixStream>; 8]) -> bool
 }
 
 // The first place without a client, if there is one.
-fn free_place(places: &[ClientSlot<UnixStream>; 8]) -> Option<usize>
+fn free_place(places: &[ClientSlot; 8]) -> Option<usize>
     ensures some { IfSome result (λ place. (place < 8) × (at places.now place ≡ None)) }
     ensures none { IfNone result (AllTaken places.now) }
 {
@@ -93,7 +92,7 @@ fn free_place(places: &[ClientSlot<UnixStream>; 8]) -> Option<usize>
 }
 
 // Two free places, with the room of each. The error is that memory was refused.
-fn open_two(alloc: Global) -> io::Result<(ClientSlot<UnixStream>, ClientSlot<UnixStream>)>
+fn open_two(alloc: Global) -> io::Result<(ClientSlot, ClientSlot)>
     ensures { IfOk result (λ two. IsOpen two.0 × IsOpen two.1) }
 {
     let first = ClientSlot::open(alloc)?;
@@ -103,7 +102,7 @@ fn open_two(alloc: Global) -> io::Result<(ClientSlot<UnixStream>, ClientSlot<Uni
 
 // Eight free places.
 #[tactic(auto, using(crate::proofs::Letting::all_open))]
-fn open_places(alloc: Global) -> io::Result<[ClientSlot<UnixStream>; 8]>
+fn open_places(alloc: Global) -> io::Result<[ClientSlot; 8]>
     ensures free { IfOk result AllFree }
     ensures rooms { IfOk result AllHaveRoom }
 {
@@ -169,7 +168,7 @@ impl Teller {
     fn seat_at(&mut self, free: usize, stream: UnixStream, is: &GatewayStatus)
         requires place { free < 8 }
         requires free { at self.old.places free ≡ None }
-        ensures seated { Seats SystemWrote stream self.old.place (whole_state self.old.law self.old.place
+        ensures seated { Seats stream self.old.place (whole_state self.old.law self.old.place
             is.now self.old.counts self.old.seized) (at self.new.places free) }
         ensures others { OnlyAt free self.old.places self.new.places }
         ensures same { KeepsPlace self.old self.new }
@@ -242,7 +241,7 @@ impl Teller {
 
     /// Sends all clients that the session has ended.
     pub fn end(&mut self)
-        ensures { (k : ℕ) → Gets SystemWrote (at self.old.places k) (at self.new.places k) end_line }
+        ensures { (k : ℕ) → Gets (at self.old.places k) (at self.new.places k) end_line }
     {
         for place in 0..MOST_CLIENTS {
             self.places[place].give(b"end\n");

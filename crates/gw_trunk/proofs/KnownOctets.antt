@@ -1,10 +1,10 @@
 -- What a reader has given grows by what each read gives.
 use Rattle.std.proofs.Common.{◌≡◌, ◌++◌, ℕ, List, Option, Some, None, Result, Ok, Err, Bool, refl, take, drop}
-use Rattle.std.proofs.Common.{append_assoc, append-nil, take-append-drop}
+use Rattle.std.proofs.Common.{ap, append_assoc, take-append-drop}
 use Rattle.std.specs.declared.io.ErrorKind.{ErrorKind}
-use Rattle.std.specs.Io.KnownBytes.{Consumes, Keeps, WriteAppends}
+use Rattle.std.specs.Io.KnownBytes.{Consumes, Keeps}
 use Rattle.std.proofs.KnownBytes.{Consumes-trans, Consumes-kept}
-use Rattle.gw_trunk.specs.Device.{passed_count, FoundNone, IsOver}
+use Rattle.gw_trunk.specs.Device.{FoundNone, IsOver}
 use Rattle.gw_trunk.specs.KnownOctets.{Gave, StaysKnown, ReadsMore}
 
 -- the two facts as std's one
@@ -49,34 +49,17 @@ pub known-kept : (a b c : Option (List ℕ)) (octets : List ℕ) → Gave a b oc
 known-kept a b c octets gave known kept =
     known-consumed a c _ (Consumes-kept a b c octets (consumed a b octets gave known) kept)
 
--- More octets are held of those that were to come.
-pub gave-held : (a b c : Option (List ℕ)) (gave held held' : List ℕ) (count : ℕ) → Gave a b (gave ++ held)
-    → StaysKnown a b → ReadsMore b c held held' count → Gave a c (gave ++ held')
-gave-held a b c gave held held' count g k r =
-    rw (r.held_is, ← append_assoc gave held r.more) (gave-more a b c (gave ++ held) r.more g k r.consumes)
-
--- .. and what is to come stays known
-pub known-held : (a b c : Option (List ℕ)) (gave held held' : List ℕ) (count : ℕ) → Gave a b (gave ++ held)
-    → StaysKnown a b → ReadsMore b c held held' count → StaysKnown a c
-known-held a b c gave held held' count g k r = known-more a b c (gave ++ held) r.more g k r.consumes
+-- More octets came, and are held behind those that were given.
+pub held-more : (came came' gave held held' : List ℕ) (count : ℕ) → came ≡ gave ++ held
+    → ReadsMore came came' held held' count → came' ≡ gave ++ held'
+held-more came came' gave held held' count e r =
+    rw (r.held_is, r.came_is, ← append_assoc gave held r.more) (ap (λ (xs : List ℕ). xs ++ r.more) e)
 
 -- The first of the octets held were given.
-pub gave-passed : (a b : Option (List ℕ)) (gave held first : List ℕ) (n : ℕ) → Gave a b (gave ++ held)
-    → first ≡ take n held → Gave a b ((gave ++ first) ++ drop n held)
-gave-passed a b gave held first n g e =
-    rw (e, append_assoc gave (take n held) (drop n held), take-append-drop n held) g
-
--- What a writer holds grows by what a write took.
-pub holds-more : (a b c : Option (List ℕ)) (got answer : List ℕ) (written : Result ℕ ErrorKind)
-    → ((before : List ℕ) → a ≡ Some before → b ≡ Some (before ++ got)) → WriteAppends b c written answer
-    → (before : List ℕ) → a ≡ Some before → c ≡ Some (before ++ (got ++ take (passed_count written) answer))
-holds-more a None c got answer written h w before e = let f = h before e in cc
-holds-more a (Some x) None got answer (Ok n) h w before e = absurd w
-holds-more a (Some x) None got answer (Err kind) h w before e = absurd w
-holds-more a (Some x) (Some y) got answer (Ok n) h w before e =
-    let f = h before e in cc (append_assoc before got (take n answer))
-holds-more a (Some x) (Some y) got answer (Err kind) h w before e =
-    let f = h before e in rw (append-nil got) cc
+pub held-passed : (came gave held first : List ℕ) (n : ℕ) → came ≡ gave ++ held → first ≡ take n held
+    → came ≡ (gave ++ first) ++ drop n held
+held-passed came gave held first n e f =
+    rw (f, append_assoc gave (take n held) (drop n held), take-append-drop n held) e
 
 -- What the last read gave stays so.
 pub none-kept : (before after : Result ℕ ErrorKind → Type 0) (ended : Bool) → ((read : Result ℕ ErrorKind)

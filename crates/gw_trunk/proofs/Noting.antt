@@ -26,7 +26,7 @@ any-more test [] x = refl
 any-more test (y ∷ xs) x = ap (λ b. test y || b) (any-more test xs x) ∙ or-turned (test y) (test x) (list_any test xs)
 
 -- A client that was woken, and is woken again, is woken by both.
-woken-then : {S : Type 0} {m : _} (a b left left' : Bool) (p q r : Option (Client S m)) → IsWokenAt a left p q
+woken-then : (a b left left' : Bool) (p q r : Option Client) → IsWokenAt a left p q
     → IsWokenAt b left' q r → IsWokenAt (b || a) (left' || left) p r
 woken-then a b left left' None None None x y = tt
 woken-then a b left left' None None (Some r) x y = absurd y
@@ -61,8 +61,8 @@ comes-more token events e old new first a b =
     ∙ or-joined ((event_token e).0 == token) (comes token events) first)
 
 -- Clients that were woken by events are woken by one more.
-pub woken-more : {S : Type 0} {m : _} (events : List Event) (e : Event)
-    (first places places' : List (Option (Client S m))) → AreWoken events first places
+pub woken-more : (events : List Event) (e : Event)
+    (first places places' : List (Option Client)) → AreWoken events first places
     → ((k : ℕ) → k < 8 → IsWokenAt ((event_token e).0 == k + 2) ((event_token e).0 == k + 2 && is_read_closed e)
     (at places k) (at places' k)) → AreWoken (events ++ e ∷ []) first places'
 woken-more events e first places places' before one k b =

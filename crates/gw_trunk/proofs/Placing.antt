@@ -22,7 +22,7 @@ left-then false q r ended ended' a (inl same) b = left-once ended q r ended' a s
 left-then false q r ended ended' a (inr goes) b = cc
 
 -- A client that stays, and then stays, does so in all. Its end was not read before, or nothing is read then.
-pub stays-then : {S : Type 0} {m : _} (p q r : Client S m) → Stays p q → (r.ended ≡ q.ended) ⊎ (q.ended ≡ false)
+pub stays-then : (p q r : Client) → Stays p q → (r.ended ≡ q.ended) ⊎ (q.ended ≡ false)
     → Stays q r → Stays p r
 stays-then p q r a read b = record {
   start_is = b.start_is ∙ a.start_is;
@@ -34,7 +34,7 @@ stays-then p q r a read b = record {
 }
 
 -- A client that stays, and then gives a record, gave it in all.
-gave-then : {S : Type 0} {m : _} (p q r : Client S m) (head : RecordHead) → Stays p q → r.ended ≡ q.ended
+gave-then : (p q r : Client) (head : RecordHead) → Stays p q → r.ended ≡ q.ended
     → GaveOne q r head → GaveOne p r head
 gave-then p q r head a read b = record {
   start_is = b.start_is ∙ a.start_is;
@@ -46,7 +46,7 @@ gave-then p q r head a read b = record {
 }
 
 -- What a client did after it was read it did in all.
-pub replies-then : {S : Type 0} {m : _} (reply : ClientPoll) (p q r : Client S m) → Stays p q → r.ended ≡ q.ended
+pub replies-then : (reply : ClientPoll) (p q r : Client) → Stays p q → r.ended ≡ q.ended
     → Replies reply q r → Replies reply p r
 replies-then (Command head) p q r a read b = gave-then p q r head a read b
 replies-then Nothing p q r a read b = (stays-then p q r a (inl read) b.0, b.1)
@@ -57,7 +57,7 @@ reached : (m k : ℕ) → m < 8 → k < 8 → (m + (k + 8 - m) % 8) % 8 ≡ k
 reached m k a b = omega arith
 
 -- Clients who have nothing, each at its place, are all that have.
-quiet-all : {S : Type 0} {m : _} (places : List (Option (Client S m)))
+quiet-all : (places : List (Option Client))
     → ((k : ℕ) → k < length places → is_quiet (at places k) ≡ true)
     → list_all is_quiet places ≡ true
 quiet-all [] h = refl
@@ -66,13 +66,13 @@ quiet-all (p ∷ places) h =
     rw first (quiet-all places (λ k b. h (suc k) (omega arith)))
 
 -- A place where nothing was given has nothing whole.
-quiet-none : {S : Type 0} {m : _} (p p' : Option (Client S m)) → GaveNone p p' → is_quiet p' ≡ true
+quiet-none : (p p' : Option Client) → GaveNone p p' → is_quiet p' ≡ true
 quiet-none p None a = refl
 quiet-none None (Some client) a = absurd a
 quiet-none (Some client) (Some client') a = rw (a.1.none) refl
 
 -- After eight turns none has anything.
-pub quiet-round : {S : Type 0} {m : _} (first turns : ℕ) (places places' : List (Option (Client S m)))
+pub quiet-round : (first turns : ℕ) (places places' : List (Option Client))
     → turns ≡ 8 → length places' ≡ 8 → GaveNothing first turns places places' → list_all is_quiet places' ≡ true
 quiet-round first turns places places' all eight none = quiet-all places' (λ k b.
     let e = reached (first % 8) k (omega arith) (omega arith) in

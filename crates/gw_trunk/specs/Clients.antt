@@ -32,7 +32,7 @@ BeginsNone octets = (ending : RecordsEnd) × (end_of client_kinds octets ≡ Som
     × (is_open ending ≡ false)
 
 -- a client gave nothing more and got nothing more; it has left too if its end was read
-pub record Stays {S : Type 0} {m : _} (client client' : Client S m) : Type 0 where
+pub record Stays (client client' : Client) : Type 0 where
   pub start_is : client'.start.value ≡ client.start.value
   pub gave_is : client'.gave.octets ≡ client.gave.octets
   pub got_is : client'.got.octets ≡ client.got.octets
@@ -41,7 +41,7 @@ pub record Stays {S : Type 0} {m : _} (client client' : Client S m) : Type 0 whe
   pub left_is : client'.left ≡ (client.left || client'.ended)
 
 -- a client gave one more record, and got nothing more
-pub record GaveOne {S : Type 0} {m : _} (client client' : Client S m) (head : RecordHead) : Type 0 where
+pub record GaveOne (client client' : Client) (head : RecordHead) : Type 0 where
   pub start_is : client'.start.value ≡ client.start.value
   pub gave_is : AsksRecord client.gave.octets client'.gave.octets head
   pub got_is : client'.got.octets ≡ client.got.octets
@@ -50,7 +50,7 @@ pub record GaveOne {S : Type 0} {m : _} (client client' : Client S m) (head : Re
   pub left_is : client'.left ≡ (client.left || client'.ended)
 
 -- a client has nothing whole, but its end was not read, and what is held of it may become a record
-pub record HasNothing {S : Type 0} {m : _} (client : Client S m) : Type 0 where
+pub record HasNothing (client : Client) : Type 0 where
   pub none : client.ready ≡ false
   pub goes : client.ended ≡ false
   pub part : IsOpen client.held.items
@@ -58,21 +58,20 @@ pub record HasNothing {S : Type 0} {m : _} (client : Client S m) : Type 0 where
 
 -- A client is to be disconnected: what is held of it is no whole record, and its end was read or 64 octets
 -- are held; or it begins with none.
-abbrev pub MayGo : {S : Type 0} {m : _} → Client S m → Type 0
+abbrev pub MayGo : Client → Type 0
 MayGo client = (IsOpen client.held.items × ((client.ended ≡ true) ⊎ (length client.held.items ≡ 64)))
     ⊎ BeginsNone client.held.items
 
 -- What a client did that was asked: it gave the record of a head; or it gave none and has nothing that is
 -- whole; or it is to be disconnected.
-abbrev pub Replies : {S : Type 0} {m : _} → ClientPoll → Client S m → Client S m → Type 0
+abbrev pub Replies : ClientPoll → Client → Client → Type 0
 Replies (Command head) client client' = GaveOne client client' head
 Replies Nothing client client' = Stays client client' × HasNothing client'
 Replies Gone client client' = Stays client client' × MayGo client'
 
 -- something may have come from a client if it is woken, and it has left if so it is said; all else is as it
 -- was
-pub record IsWoken {S : Type 0} {m : _} (is_woken has_left : Bool) (client client' : Client S m)
-    : Type 0 where
+pub record IsWoken (is_woken has_left : Bool) (client client' : Client) : Type 0 where
   pub stream_is : client'.stream ≡ client.stream
   pub held_is : client'.held.items ≡ client.held.items
   pub ended_is : client'.ended ≡ client.ended
@@ -86,21 +85,21 @@ pub record IsWoken {S : Type 0} {m : _} (is_woken has_left : Bool) (client clien
 
 -- the client at a place was asked and gave nothing: it stays and has nothing whole, or is disconnected as it
 -- may be; or there is none
-abbrev pub GaveNone : {S : Type 0} {m : _} → Option (Client S m) → Option (Client S m) → Type 0
+abbrev pub GaveNone : Option Client → Option Client → Type 0
 GaveNone None None = ⊤
 GaveNone None (Some client') = ⊥
-GaveNone {S} {m} (Some client) None = (last : Client S m) × Stays client last × MayGo last
+GaveNone (Some client) None = (last : Client) × Stays client last × MayGo last
 GaveNone (Some client) (Some client') = Stays client client' × HasNothing client'
 
 -- the client at a place gave one more record
-abbrev pub GaveAt : {S : Type 0} {m : _} → Option (Client S m) → Option (Client S m) → RecordHead → Type 0
+abbrev pub GaveAt : Option Client → Option Client → RecordHead → Type 0
 GaveAt (Some client) (Some client') head = GaveOne client client' head
 GaveAt _ _ head = ⊥
 
 -- A client got as much of an answer as a write to it took, and gave nothing more. It has hung up if the write
 -- says so.
-pub record GotPart {S : Type 0} {m : _} (client client' : Client S m) (answer : List ℕ)
-    (written : Result ℕ ErrorKind) : Type 0 where
+pub record GotPart (client client' : Client) (answer : List ℕ) (written : Result ℕ ErrorKind)
+    : Type 0 where
   pub start_is : client'.start.value ≡ client.start.value
   pub gave_is : client'.gave.octets ≡ client.gave.octets
   pub got_is : client'.got.octets ≡ client.got.octets ++ take (passed_count written) answer
@@ -109,57 +108,51 @@ pub record GotPart {S : Type 0} {m : _} (client client' : Client S m) (answer : 
   pub left_is : client'.left ≡ (client.left || is_broken_pipe written)
 
 -- an answer was written to a client, who took it whole or has hung up, or did neither
-abbrev pub Takes : {S : Type 0} {m : _} → (S → List ℕ → Result ℕ ErrorKind → Type 0) → Bool
-    → Client S m → Client S m → List ℕ → Type 0
-Takes has_written takes client client' answer = (written : Result ℕ ErrorKind)
-    × has_written client'.stream answer written × GotPart client client' answer written
+abbrev pub Takes : Bool → Client → Client → List ℕ → Type 0
+Takes takes client client' answer = (written : Result ℕ ErrorKind)
+    × SystemWrote client'.stream answer written × GotPart client client' answer written
     × (takes ≡ ((passed_count written == length answer) || client'.left))
 
 -- the client at a place takes an answer, or is disconnected because it did not
-abbrev pub Gets : {S : Type 0} {m : _} → (S → List ℕ → Result ℕ ErrorKind → Type 0)
-    → Option (Client S m) → Option (Client S m) → List ℕ → Type 0
-Gets has_written None None answer = ⊤
-Gets has_written None (Some client') answer = ⊥
-Gets {S} {m} has_written (Some client) None answer =
-    (last : Client S m) × Takes has_written false client last answer
-Gets has_written (Some client) (Some client') answer = Takes has_written true client client' answer
+abbrev pub Gets : Option Client → Option Client → List ℕ → Type 0
+Gets None None answer = ⊤
+Gets None (Some client') answer = ⊥
+Gets (Some client) None answer = (last : Client) × Takes false client last answer
+Gets (Some client) (Some client') answer = Takes true client client' answer
 
 -- a place has no client, or one from whom nothing has come since a read found nothing
-abbrev pub is_quiet : {S : Type 0} {m : _} → Option (Client S m) → Bool
+abbrev pub is_quiet : Option Client → Bool
 is_quiet None = true
 is_quiet (Some client) = not client.ready
 
 -- what the client at a place did that was asked
-abbrev pub Answers : {S : Type 0} {m : _} → ClientPoll → Option (Client S m) → Option (Client S m) → Type 0
+abbrev pub Answers : ClientPoll → Option Client → Option Client → Type 0
 Answers (Command head) place place' = GaveAt place place' head
 Answers _ place place' = GaveNone place place'
 
 -- the client at a place
-abbrev pub at : {S : Type 0} {m : _} → List (Option (Client S m)) → ℕ → Option (Client S m)
+abbrev pub at : List (Option Client) → ℕ → Option Client
 at places k = slice_index_or places k None
 
 -- the clients at all places but this one are as they were
-abbrev pub OnlyAt : {S : Type 0} {m : _} → ℕ → List (Option (Client S m)) → List (Option (Client S m))
-    → Type 0
+abbrev pub OnlyAt : ℕ → List (Option Client) → List (Option Client) → Type 0
 OnlyAt place places places' = (k : ℕ) → k ≢ place → at places' k ≡ at places k
 
 -- what a read gave as an answer goes to the client at a place; if it found nothing, nobody gets anything
-abbrev pub GetsRead : {S : Type 0} {m : _} → (S → List ℕ → Result ℕ ErrorKind → Type 0)
-    → Result ℕ ErrorKind → List ℕ → Option (Client S m) → Option (Client S m) → Type 0
-GetsRead has_written (Ok n) room place place' =
-    (n ≡ 0 → place' ≡ place) × (0 < n → Gets has_written place place' (take n room))
-GetsRead has_written (Err kind) room place place' = place' ≡ place
+abbrev pub GetsRead : Result ℕ ErrorKind → List ℕ → Option Client → Option Client → Type 0
+GetsRead (Ok n) room place place' =
+    (n ≡ 0 → place' ≡ place) × (0 < n → Gets place place' (take n room))
+GetsRead (Err kind) room place place' = place' ≡ place
 
 -- The answer to the last record was read into a room of 64 octets, and what came goes to the client whose
 -- record it was, if it is still there. The clients at all other places are as they were.
-pub record HasAnswered {S : Type 0} {m : _} (has_written : S → List ℕ → Result ℕ ErrorKind → Type 0)
-    (gave : Result ℕ ErrorKind → List ℕ → Type 0) (places places' : List (Option (Client S m))) (place : ℕ)
-    : Type 0 where
+pub record HasAnswered (gave : Result ℕ ErrorKind → List ℕ → Type 0) (places places' : List (Option Client))
+    (place : ℕ) : Type 0 where
   pub read : Result ℕ ErrorKind
   pub room : List ℕ
   pub long : length room ≡ 64
   pub was_read : gave read room
-  pub gets : GetsRead has_written read room (at places place) (at places' place)
+  pub gets : GetsRead read room (at places place) (at places' place)
   pub others : OnlyAt place places places'
 
 -- the place that is asked at a turn, from a first one on
@@ -167,20 +160,19 @@ abbrev pub place_at : ℕ → ℕ → ℕ
 place_at first turn = (first % 8 + turn) % 8
 
 -- The clients at this many places, in turn, were asked and gave nothing. Those at others are as they were.
-pub record GaveNothing {S : Type 0} {m : _} (first turns : ℕ)
-    (places places' : List (Option (Client S m))) : Type 0 where
+pub record GaveNothing (first turns : ℕ) (places places' : List (Option Client)) : Type 0 where
   pub asked : (turn : ℕ) → turn < turns
       → GaveNone (at places (place_at first turn)) (at places' (place_at first turn))
   pub others : (k : ℕ) → ((turn : ℕ) → turn < turns → k ≢ place_at first turn) → at places' k ≡ at places k
 
 -- Clients were asked in turn, those before one at a place gave nothing, and this one did this. Those behind
 -- it were not asked.
-pub record HasTurned {S : Type 0} {m : _} (first : ℕ) (places places' : List (Option (Client S m)))
-    (place : ℕ) (does : Option (Client S m) → Option (Client S m) → Type 0) : Type 0 where
+pub record HasTurned (first : ℕ) (places places' : List (Option Client))
+    (place : ℕ) (does : Option Client → Option Client → Type 0) : Type 0 where
   pub turn : ℕ
   pub in_turn : turn < 8
   pub place_is : place ≡ place_at first turn
-  pub between : List (Option (Client S m))
+  pub between : List (Option Client)
   pub before : GaveNothing first turn places between
   pub done : does (at between place) (at places' place)
   pub others : OnlyAt place between places'
@@ -205,15 +197,14 @@ abbrev pub leaves : ℕ → List Event → Bool
 leaves token events = list_any (λ e. (event_token e).0 == token && is_read_closed e) events
 
 -- a client at a place is woken, or it is said that it has left; or there is none
-abbrev pub IsWokenAt : {S : Type 0} {m : _} → Bool → Bool → Option (Client S m) → Option (Client S m) → Type 0
+abbrev pub IsWokenAt : Bool → Bool → Option Client → Option Client → Type 0
 IsWokenAt is_woken has_left None None = ⊤
 IsWokenAt is_woken has_left None (Some client') = ⊥
 IsWokenAt is_woken has_left (Some client) None = ⊥
 IsWokenAt is_woken has_left (Some client) (Some client') = IsWoken is_woken has_left client client'
 
 -- each client is woken by events of its token, which follow that of the door
-abbrev pub AreWoken : {S : Type 0} {m : _} → List Event → List (Option (Client S m))
-    → List (Option (Client S m)) → Type 0
+abbrev pub AreWoken : List Event → List (Option Client) → List (Option Client) → Type 0
 AreWoken events places places' = (k : ℕ) → k < 8
     → IsWokenAt (comes (k + 2) events) (leaves (k + 2) events) (at places k) (at places' k)
 
@@ -234,23 +225,23 @@ pub record Looks (clients clients' : Clients) : Type 0 where
 
 -- The rank of a place for a new client: it takes the lowest, a free one, else that of a client that has left,
 -- else that of the one that came first of those who never gave a record; never one of the last rank.
-abbrev pub rank : {S : Type 0} {m : _} → Option (Client S m) → ℕ
+abbrev pub rank : Option Client → ℕ
 rank None = 0
 rank (Some client) =
     if client.left then 1 else (if client.known then 2 ^ 64 - 1 else at_most (client.number + 2))
 
 -- a place is that of a new client
-pub record MakesRoom {S : Type 0} {m : _} (places : List (Option (Client S m))) (place : ℕ) : Type 0 where
+pub record MakesRoom (places : List (Option Client)) (place : ℕ) : Type 0 where
   pub is_place : place < 8
   pub is_open : rank (at places place) < 2 ^ 64 - 1
   pub is_lowest : (k : ℕ) → k < 8 → rank (at places place) ≤ rank (at places k)
 
 -- each place has a client that is there and gave a record
-abbrev pub AreAllKnown : {S : Type 0} {m : _} → List (Option (Client S m)) → Type 0
+abbrev pub AreAllKnown : List (Option Client) → Type 0
 AreAllKnown places = (k : ℕ) → k < 8 → rank (at places k) ≡ 2 ^ 64 - 1
 
 -- the client at a place is new: this is its connection, and this many came before it
-abbrev pub IsNew : {S : Type 0} {m : _} → S → ℕ → Option (Client S m) → Type 0
+abbrev pub IsNew : UnixStream → ℕ → Option Client → Type 0
 IsNew stream number None = ⊥
 IsNew stream number (Some client) = (client.start.value ≡ stream) × (client.number ≡ number)
     × (client.gave.octets ≡ []) × (client.got.octets ≡ []) × (client.known ≡ false) × (client.left ≡ false)
@@ -276,7 +267,7 @@ Places stream clients clients' = (AreAllKnown clients.places × (clients' ≡ cl
 abbrev pub GivesAnswer : Clients → Clients → Type 0
 GivesAnswer clients clients' = MatchOption clients.asker (clients' ≡ clients) (λ place.
     (clients' ≡ record clients { answers = clients'.answers; places = clients'.places; asker = None })
-    × HasAnswered SystemWrote (GaveBehind clients.answers.log.octets clients'.answers.log.octets)
+    × HasAnswered (GaveBehind clients.answers.log.octets clients'.answers.log.octets)
     clients.places clients'.places place)
 
 -- A trunk with clients begins: its octets are those of this reader, neither it nor a client gave any yet, and

@@ -1,4 +1,4 @@
--- What the system answered to calls at a client's connection (module `client_stream`). Std says nothing of
+-- What the system answered to calls at a client's connection (module `connection`). Std says nothing of
 -- it, so these relations hold of every answer; but they are unfolded only in the functions that ask the
 -- system, so for all others they hold only of answers received.
 use Rattle.std.specs.Prelude.{⊤, ℕ, List, Result}

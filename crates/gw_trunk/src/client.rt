@@ -1,14 +1,16 @@
 //! Whether a client's command has come whole, and when the client is disconnected (`Client`).
 
-ghost use Rattle.std.specs.Prelude.{◌≡◌, ◌+◌, ◌<◌, ◌≤◌, ◌++◌, ◌||◌, ℕ, List, [], true, false, length, Some};
+ghost use Rattle.std.specs.Prelude.{◌≡◌, ◌+◌, ◌<◌, ◌≤◌, ◌++◌, ◌||◌, [], true, false, length};
 ghost use Rattle.std.specs.Prelude.{is_ok};
-ghost use Rattle.gw_trunk.specs.KnownOctets.{Gave, StaysKnown, ReadsMore};
+ghost use Rattle.gw_trunk.specs.KnownOctets.{ReadsMore};
 ghost use Rattle.gw_trunk.specs.Device.{has_octets, is_over, passed_count, is_broken_pipe, FoundNone, IsOver};
+ghost use Rattle.gw_trunk.specs.System.{SystemRead};
 
-use crate::client_stream::ClientStream;
+use crate::connection::{read_client, write_client};
 use crate::held::drop_first;
 use arrayvec::ArrayVec;
 use gw_records::{AcceptedKinds, AtStart, Log, RecordHead, RecordsEnd, first_record};
+use mio::net::UnixStream;
 use std::io::ErrorKind;
 
 // How many octets of a client are held.
@@ -37,12 +39,10 @@ pub enum ClientPoll {
     Gone,
 }
 
-/// A connection that commands come from. If it is known what the client was to give, that is the records
-/// that it gave, what is held of it, and what is still to come. If it is known what the client has, that is
-/// what it had at the start and the answers that it got.
+/// A connection that commands come from. What came is the records that the client gave, and what is held.
 #[derive(Drop)]
-pub struct Client<S: ClientStream> {
-    stream: S,
+pub struct Client {
+    stream: UnixStream,
     held: ArrayVec<u8, 64>,
     // Whether something may have come since a read found nothing.
     pub ready: bool,
@@ -54,34 +54,33 @@ pub struct Client<S: ClientStream> {
     pub left: bool,
     // Whether its end was read: nothing comes from it any more.
     ended: bool,
-    start: AtStart<S>,
+    start: AtStart<UnixStream>,
+    // The octets that came from it.
+    came: Log,
     // The records that it gave.
     gave: Log,
     // The octets of the answers that it got.
     got: Log,
-    ghost gives: { Gave (S.remaining start.value) (S.remaining stream) (gave.octets ++ held.items) },
-    ghost stays_known: { StaysKnown (S.remaining start.value) (S.remaining stream) },
-    ghost holds: { (before : List ℕ) → S.contents start.value ≡ Some before
-        → S.contents stream ≡ Some (before ++ got.octets) },
-    ghost quiet: { ready ≡ false → ∥ FoundNone (S.has_read stream) ended ∥₁ },
-    ghost over: { ended ≡ true → ∥ IsOver (S.has_read stream) ∥₁ },
+    ghost gives: { came.octets ≡ gave.octets ++ held.items },
+    ghost quiet: { ready ≡ false → ∥ FoundNone (SystemRead stream) ended ∥₁ },
+    ghost over: { ended ≡ true → ∥ IsOver (SystemRead stream) ∥₁ },
     ghost gone: { ended ≡ true → left ≡ true },
 }
 
 // Reads once what has come, behind the octets held.
-fn read_more<S: ClientStream>(
-    stream: &mut S,
+fn read_more(
+    stream: &mut UnixStream,
+    came: &mut Log,
     held: &mut ArrayVec<u8, 64>,
     want: usize,
 ) -> Result<usize, ErrorKind>
     requires { want + length held.old.items ≡ 64 }
-    ensures more { ReadsMore (S.remaining stream.old) (S.remaining stream.new) held.old.items held.new.items
+    ensures more { ReadsMore came.old.octets came.new.octets held.old.items held.new.items
         (passed_count result) }
-    ensures contents { S.contents stream.new ≡ S.contents stream.old }
-    ensures read { S.has_read stream.new result }
+    ensures read { SystemRead stream.new result }
 {
     let mut room = [0u8; ROOM_LEN];
-    let read = stream.read_now(&mut room[..want]);
+    let read = read_client(stream, came, &mut room[..want]);
     let _ = held.try_extend_from_slice(&room[..passed_count(read)]);
     read
 }
@@ -128,11 +127,11 @@ fn is_broken_pipe(written: Result<usize, ErrorKind>) -> bool
     }
 }
 
-impl<S: ClientStream> Client<S> {
+impl Client {
     ghost use Rattle.gw_trunk.specs.Clients.{IsOpen, IsWoken, Replies, Stays, Takes};
 
     /// A client that may have sent something, and how many came before it.
-    pub fn new(stream: S, number: u64) -> Client<S>
+    pub fn new(stream: UnixStream, number: u64) -> Client
         ensures gave { result.gave.octets ≡ [] }
         ensures got { result.got.octets ≡ [] }
         ensures number { result.number ≡ number }
@@ -150,6 +149,7 @@ impl<S: ClientStream> Client<S> {
             left: false,
             ended: false,
             start,
+            came: Log::new(),
             gave: Log::new(),
             got: Log::new(),
         }
@@ -170,7 +170,7 @@ impl<S: ClientStream> Client<S> {
         ensures stays { Stays self.old self.new }
         ensures more { self.new.ready ≡ true → length self.old.held.items < length self.new.held.items }
     {
-        let read = read_more(&mut self.stream, &mut self.held, want);
+        let read = read_more(&mut self.stream, &mut self.came, &mut self.held, want);
         self.ready = has_octets(read);
         self.ended = is_over(read);
         self.left = self.left || self.ended;
@@ -234,11 +234,10 @@ impl<S: ClientStream> Client<S> {
     /// Gives the client an answer. A client that does not take it whole at once is to be disconnected, unless
     /// it has hung up: then nobody gets the rest.
     pub fn answer(&mut self, answer: &[u8]) -> Result<(), Away>
-        ensures { Takes S.has_written (is_ok result) self.old self.new answer.now }
+        ensures { Takes (is_ok result) self.old self.new answer.now }
     {
-        let written = self.stream.write_now(answer);
+        let written = write_client(&mut self.stream, &mut self.got, answer);
         let n = passed_count(written);
-        self.got.append(answer, n);
         self.left = self.left || is_broken_pipe(written);
         if n == answer.len() || self.left {
             Ok(())

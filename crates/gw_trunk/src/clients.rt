@@ -10,7 +10,6 @@ ghost use Rattle.gw_trunk.specs.Clients.{IsWokenAt, Looks, MakesRoom, OnlyAt, Pl
 ghost use Rattle.gw_trunk.specs.Clients.{rank};
 
 use crate::client::{Client, ClientPoll};
-use crate::client_stream::ClientStream;
 use crate::door::Door;
 use crate::logged_reader::LoggedReader;
 use crate::readiness::Poller;
@@ -65,7 +64,7 @@ pub struct Clients {
     knocks: bool,
     // Whether the end is asked for.
     pub ends: bool,
-    pub places: [Option<Client<UnixStream>>; 8],
+    pub places: [Option<Client>; 8],
     // What the answers come from.
     answers: LoggedReader<UnixStream>,
     // The place of the client whose record was the last one, if its answer is to come.
@@ -77,7 +76,7 @@ pub struct Clients {
 }
 
 // Asks the client at a place, and lets it go if it is to be.
-fn ask_one<S: ClientStream>(place: &mut Option<Client<S>>) -> ClientPoll
+fn ask_one(place: &mut Option<Client>) -> ClientPoll
     ensures { Answers result place.old place.new }
 {
     let Some(client) = place else {
@@ -91,7 +90,7 @@ fn ask_one<S: ClientStream>(place: &mut Option<Client<S>>) -> ClientPoll
 }
 
 // Asks the client at the place of this number, and none else.
-fn ask_at<S: ClientStream>(places: &mut [Option<Client<S>>; 8], place: usize) -> ClientPoll
+fn ask_at(places: &mut [Option<Client>; 8], place: usize) -> ClientPoll
     requires { place < 8 }
     ensures answers { Answers result (at places.old place) (at places.new place) }
     ensures others { OnlyAt place places.old places.new }
@@ -101,8 +100,8 @@ fn ask_at<S: ClientStream>(places: &mut [Option<Client<S>>; 8], place: usize) ->
 }
 
 // Gives the client at a place an answer, and lets it go if it does not take it.
-fn answer_one<S: ClientStream>(place: &mut Option<Client<S>>, answer: &[u8])
-    ensures { Gets S.has_written place.old place.new answer.now }
+fn answer_one(place: &mut Option<Client>, answer: &[u8])
+    ensures { Gets place.old place.new answer.now }
 {
     let Some(client) = place else {
         return;
@@ -114,14 +113,14 @@ fn answer_one<S: ClientStream>(place: &mut Option<Client<S>>, answer: &[u8])
 
 // Gives what a read of an answer came to, the first octets of `room`, to the client at the place of this
 // number, and to none else.
-fn answer_at<S: ClientStream>(
-    places: &mut [Option<Client<S>>; 8],
+fn answer_at(
+    places: &mut [Option<Client>; 8],
     place: usize,
     read: Result<usize, ErrorKind>,
     room: &[u8],
 )
     requires { IfOk read (λ n. n ≤ length room.now) }
-    ensures gets { GetsRead S.has_written read room.now (at places.old place) (at places.new place) }
+    ensures gets { GetsRead read room.now (at places.old place) (at places.new place) }
     ensures others { OnlyAt place places.old places.new }
 {
     match read {
@@ -131,7 +130,7 @@ fn answer_at<S: ClientStream>(
 }
 
 // Wakes the client at a place, who may have left.
-fn wake_one<S: ClientStream>(place: &mut Option<Client<S>>, has_left: bool)
+fn wake_one(place: &mut Option<Client>, has_left: bool)
     ensures { IsWokenAt true has_left place.old place.new }
 {
     if let Some(client) = place {
@@ -140,12 +139,12 @@ fn wake_one<S: ClientStream>(place: &mut Option<Client<S>>, has_left: bool)
 }
 
 // Notes an event, by its token; a client may have left.
-fn note<S: ClientStream>(
+fn note(
     event: &Event,
     octets: &mut bool,
     knocks: &mut bool,
     ends: &mut bool,
-    places: &mut [Option<Client<S>>; 8],
+    places: &mut [Option<Client>; 8],
 )
     ensures octets { octets.new ≡ ((event_token event.now).0 == 0 || octets.old) }
     ensures knocks { knocks.new ≡ ((event_token event.now).0 == 1 || knocks.old) }
@@ -169,12 +168,12 @@ fn note<S: ClientStream>(
 }
 
 // Notes events for the trunk, the door, the end and clients, by their tokens.
-fn note_all<S: ClientStream>(
+fn note_all(
     events: &Events,
     octets: &mut bool,
     knocks: &mut bool,
     ends: &mut bool,
-    places: &mut [Option<Client<S>>; 8],
+    places: &mut [Option<Client>; 8],
 )
     ensures octets { octets.new ≡ (comes 0 (items events.now) || octets.old) }
     ensures knocks { knocks.new ≡ (comes 1 (items events.now) || knocks.old) }
@@ -188,7 +187,7 @@ fn note_all<S: ClientStream>(
 
 // The rank of a place: a new client takes the lowest, a free one, else that of a client that has left, else
 // that of the oldest client that never gave a record.
-fn rank<S: ClientStream>(place: &Option<Client<S>>) -> u64
+fn rank(place: &Option<Client>) -> u64
     ensures { result ≡ rank place.now }
 {
     match place {
@@ -200,7 +199,7 @@ fn rank<S: ClientStream>(place: &Option<Client<S>>) -> u64
 }
 
 // The place of a new client; None if each has a client that is there and gave a record.
-fn place_for_one<S: ClientStream>(places: &[Option<Client<S>>; 8]) -> Option<usize>
+fn place_for_one(places: &[Option<Client>; 8]) -> Option<usize>
     ensures some { IfSome result (MakesRoom places.now) }
     ensures none { IfNone result (AreAllKnown places.now) }
 {

@@ -2,8 +2,8 @@
 #![tactic(auto)]
 
 mod client;
-mod client_stream;
 mod clients;
+mod connection;
 mod device;
 mod device_calls;
 mod door;
@@ -16,7 +16,7 @@ mod source;
 mod waiting;
 mod with_clients;
 
-pub use client_stream::ClientStream;
+pub use connection::{read_client, write_client};
 pub use device::{
     DeviceFault, DeviceRead, FromDevice, NoClients, ToDevice, TrunkInput, TrunkOutput,
 };

@@ -3,7 +3,7 @@ use Rattle.gw_trunk.proofs.Noting.{comes-more, values-more, woken-more}
 use Rattle.gw_trunk.proofs.clients.note_all.Goals as goal
 
 pub loop-event-preserved : goal.loop-event-preserved
-loop-event-preserved g c =
+loop-event-preserved c =
     let event = c.in-Some.event.now in
     let before = map (λ e. e.now) c.loop-event.yielded in
     rw (values-more _ c.loop-event.yielded c.in-Some.event) (record {

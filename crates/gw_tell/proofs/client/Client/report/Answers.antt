@@ -7,7 +7,7 @@ use Rattle.gw_tell.proofs.Sending.{sent_behind}
 use Rattle.gw_tell.proofs.client.Client.report.Goals as goal
 
 pub returns-clause-ok : goal.returns-clause-ok
-returns-clause-ok g c =
+returns-clause-ok c =
     let lines = drop c.args.front c.args.text.now in
     let some : 0 < length lines = simp length-drop (omega arith) in
     let sent = sent_behind c.args.self.now.last c.args.place lines (ne_eqb _ _ c.if-self-place.false) some in
@@ -16,14 +16,14 @@ returns-clause-ok g c =
     rw (sent.0, whole) c.give-2.ensures.ok
 
 pub returns-clause-last : goal.returns-clause-last
-returns-clause-last g c =
+returns-clause-last c =
     let lines = drop c.args.front c.args.text.now in
     let some : 0 < length lines = simp length-drop (omega arith) in
     c.give-2.ensures.last
     ∙ sym (sent_behind c.args.self.now.last c.args.place lines (ne_eqb _ _ c.if-self-place.false) some).1
 
 pub returns-clause-err : goal.returns-clause-err
-returns-clause-err g c =
+returns-clause-err c =
     let lines = drop c.args.front c.args.text.now in
     let some : 0 < length lines = simp length-drop (omega arith) in
     let sent = sent_behind c.args.self.now.last c.args.place lines (ne_eqb _ _ c.if-self-place.false) some in

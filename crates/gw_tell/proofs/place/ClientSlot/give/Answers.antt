@@ -1,5 +1,5 @@
 use Rattle.gw_tell.proofs.place.ClientSlot.give.Goals as goal
 
 pub returns-in-Err-clause-client : goal.returns-in-Err-clause-client
-returns-in-Err-clause-client g c =
+returns-in-Err-clause-client c =
     rw (c.in-Some.is, c.let_go.ensures.gone) (c.give.new.self, c.in-Err.ensures.start, c.in-Err.ensures.err)

@@ -1,5 +1,4 @@
 use Rattle.std.proofs.Common.{◌≡◌, ◌≤◌, ◌<◌, ℕ, length}
-use Rattle.gw_trunk.specs.System.{SystemRead, SystemWrote}
 use Rattle.gw_tell.specs.Clients.{IsHeard, at}
 use Rattle.gw_tell.proofs.teller.Teller.listen.Given as goal
 
@@ -7,7 +6,7 @@ use Rattle.gw_tell.proofs.teller.Teller.listen.Given as goal
 abbrev pub invariant-loop-place : goal.invariant-loop-place
 invariant-loop-place l = record {
   count : length l.self.places ≡ 8;
-  heard : (k : ℕ) → k < l.place → IsHeard SystemRead SystemWrote (at l.fn.self.places k) (at l.self.places k);
+  heard : (k : ℕ) → k < l.place → IsHeard (at l.fn.self.places k) (at l.self.places k);
   law : l.self.law ≡ l.fn.self.law;
   place : l.self.place ≡ l.fn.self.place;
   counts : l.self.counts ≡ l.fn.self.counts;
