@@ -3,12 +3,11 @@ from __future__ import annotations
 
 import errno
 import glob
-import grp
 import os
 import stat
 from contextlib import suppress
 
-from e1gw_common.fault_words import name_of_process, named, words_of_fault
+from e1gw_common.fault_words import group_of, name_of_process, named, words_of_fault
 from .dahdi import Blocks, CardFault, DahdiChannel, is_channel
 from .trunks import Stream, open_files
 
@@ -17,6 +16,7 @@ NO_CARD = 'no card has it now; is its driver loaded (lsdahdi), and was dahdi_cfg
 ADVICE = {errno.ENOENT: NO_CARD, errno.ENXIO: NO_CARD, errno.ENODEV: NO_CARD,
           errno.EPERM: 'the unit was started before the driver was there: restart it'}
 RULE = 'only root may: e1gw.rules goes to /etc/udev/rules.d'
+DROP_IN = 'a unit wants DeviceAllow={} rw and SupplementaryGroups={} (systemctl edit)'
 
 
 def is_card(path: str) -> bool:
@@ -34,15 +34,15 @@ def holders(path: str) -> list[str]:
     return sorted(found)
 
 
-def group_of(path: str) -> str:
-    """The name of a file's group."""
-    number = os.stat(path).st_gid
-    with suppress(KeyError):
-        return grp.getgrgid(number).gr_name
-    return str(number)
+def device_advice(path: str, number: int) -> str:
+    """What to do where the open of a device of no card ended with this error; nothing if that says all."""
+    with suppress(OSError):
+        if number in (errno.EACCES, errno.EPERM) and stat.S_ISCHR(os.stat(path).st_mode):
+            return DROP_IN.format(path, group_of(path))
+    return ''
 
 
-def advice(path: str, number: int) -> str:
+def card_advice(path: str, number: int) -> str:
     """What to do where a card's open ended with this error; nothing if that says all."""
     with suppress(OSError):
         if number == errno.EBUSY:
@@ -55,8 +55,8 @@ def advice(path: str, number: int) -> str:
 
 
 def with_advice(fault: OSError, path: str) -> OSError:
-    """The same error of an open; of a card with what to do."""
-    words = advice(path, fault.errno or 0) if is_card(path) else ''
+    """The same error of an open; of a device with what to do."""
+    words = (card_advice if is_card(path) else device_advice)(path, fault.errno or 0)
     return OSError(fault.errno or 0, f'{words_of_fault(fault, path)}; {words}') if words else fault
 
 

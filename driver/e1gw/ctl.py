@@ -272,7 +272,7 @@ def main(patience: float = PATIENCE) -> None:
         status = 1
     except OSError as fault:
         path = fault.filename or path_of(asked.path or '')
-        print(f'e1gw-ctl: {path}: {fault.strerror or fault}{unit_words(path, fault)}', file=sys.stderr)
+        print(f'e1gw-ctl: {words_of_fault(fault, path)}{unit_words(path, fault)}', file=sys.stderr)
         status = 2
     except UnicodeError:
         print('e1gw-ctl: a command cannot be read', file=sys.stderr)

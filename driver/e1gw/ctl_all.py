@@ -9,7 +9,7 @@ import time
 from contextlib import suppress
 from typing import Any, BinaryIO, Callable, Iterable, Iterator, Mapping, NamedTuple
 
-from e1gw_common.faults import words_of_fault
+from e1gw_common.fault_words import group_of, named, words_of_fault
 from e1gw_common.lines import REMOTE
 from .deaf import words_of_rows
 from .metrics import block_words, satop_words, state_of, wrong_rate
@@ -39,6 +39,16 @@ def units_here() -> list[str]:
     return [name.removesuffix('.options') for name in names if name.endswith('.options')]
 
 
+def with_group(fault: OSError, path: str) -> OSError:
+    """The same error, which names the socket, and where this user may not command the group that may."""
+    fault = named(fault, path)
+    if isinstance(fault, PermissionError):
+        for place in path, os.path.dirname(path):       # (a folder may hide what it has)
+            with suppress(OSError):
+                return OSError(fault.errno, f'{fault.strerror}; it is for the group {group_of(place)}')
+    return fault
+
+
 def connected(path: str, patience: float) -> socket.socket:
     """A connection to a trunk, within these seconds, which each answer has, too. OSError if there is none."""
     line = socket.socket(socket.AF_UNIX)
@@ -48,9 +58,9 @@ def connected(path: str, patience: float) -> socket.socket:
         line.setsockopt(socket.SOL_SOCKET, socket.SO_SNDTIMEO, struct.pack('ll', *until))
         line.connect(path)
         line.settimeout(patience)
-    except OSError:
+    except OSError as fault:
         line.close()
-        raise
+        raise with_group(fault, path) from None
     return line
 
 

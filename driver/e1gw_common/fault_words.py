@@ -1,7 +1,10 @@
 """Errors of the system in words that name what was refused, never a number alone."""
 from __future__ import annotations
 
+import grp
 import os
+import re
+from contextlib import suppress
 
 
 def words_of_fault(fault: BaseException, what: str = '') -> str:
@@ -10,12 +13,21 @@ def words_of_fault(fault: BaseException, what: str = '') -> str:
         return f'{what}: {fault}' if what else str(fault)
     why = fault.strerror or str(fault) or type(fault).__name__
     name = what or (fault.filename if isinstance(fault.filename, str) else '')
-    return f'{name}: {why}' if name and name not in why else why
+    is_named = not name or re.search(rf'(?<!\S){re.escape(name)}(?![^\s:;,])', why)
+    return why if is_named else f'{name}: {why}'
 
 
 def named(fault: OSError, what: str) -> OSError:
     """The same error, which names what it is about."""
     return OSError(fault.errno or 0, words_of_fault(fault, what))
+
+
+def group_of(path: str) -> str:
+    """The name of a file's group."""
+    number = os.stat(path).st_gid
+    with suppress(KeyError):
+        return grp.getgrgid(number).gr_name
+    return str(number)
 
 
 def name_of_process(pid: int | str) -> str:

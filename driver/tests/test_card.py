@@ -136,7 +136,7 @@ class SetUpTests(unittest.TestCase):
             process.kill()
 
     def test_advice(self) -> None:
-        """Of a card alone; a channel that is held names who holds it."""
+        """Of a device; a channel that is held names who holds it."""
         for number in errno.ENXIO, errno.ENOENT, errno.EBUSY, errno.EPERM:
             fault = OSError(number, os.strerror(number), '/dev/e1')
             self.assertIs(card_opening.with_advice(fault, '/dev/e1'), fault)
@@ -146,10 +146,13 @@ class SetUpTests(unittest.TestCase):
         with open(os.devnull, 'rb'):
             name = Path('/proc/self/comm').read_text(encoding='utf-8').strip()
             self.assertIn(f'{name} ({os.getpid()})', card_opening.holders(os.devnull))
-            self.assertIn(name, card_opening.advice(os.devnull, errno.EBUSY))
-        self.assertIn('SupplementaryGroups=', card_opening.advice(os.devnull, errno.EACCES))
+            self.assertIn(name, card_opening.card_advice(os.devnull, errno.EBUSY))
+        self.assertIn('SupplementaryGroups=', card_opening.card_advice(os.devnull, errno.EACCES))
+        for number in errno.EACCES, errno.EPERM:
+            fault = card_opening.with_advice(OSError(number, os.strerror(number), os.devnull), os.devnull)
+            self.assertRegex(fault.strerror or '', f'/dev/null: .*; .* DeviceAllow=/dev/null rw .* SupplementaryGroups=root')
         with tempfile.NamedTemporaryFile() as alone:
-            self.assertIn('e1gw.rules', card_opening.advice(alone.name, errno.EACCES))
+            self.assertIn('e1gw.rules', card_opening.card_advice(alone.name, errno.EACCES))
 
 
 class CardWatchTests(unittest.TestCase):

@@ -290,6 +290,7 @@ class EventAndFaultTextTests(unittest.TestCase):
                 (none, '', '/a: No such file'), (none, 'b', 'b: No such file'),
                 (OSError(2, 'No /a', '/a'), '', 'No /a'), (OSError(2, 'No b'), 'b', 'No b'),
                 (OSError('odd'), '', 'odd'), (TimeoutError(), '', 'TimeoutError'),
+                (OSError(9, 'Is bad', 's'), '', 's: Is bad'), (OSError(9, 's: bad', 's'), '', 's: bad'),
                 (OSError(9, 'Bad', 7), '', 'Bad'), (ValueError('c'), '', 'c'), (ValueError('c'), 'b', 'b: c')):
             self.assertEqual(words_of_fault(fault, what), words)
         for fault in (none, OSError('odd')):
