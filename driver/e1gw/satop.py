@@ -8,6 +8,7 @@ from contextlib import suppress
 from typing import Mapping, NamedTuple, Sequence
 
 from e1gw_common.addresses import host_and_port
+from e1gw_common.fault_words import named
 
 FIRST = 'satop '            # how a line of counts begins
 
@@ -41,11 +42,20 @@ def _text_of(address: str, port: int) -> str:
     return f'[{address}]:{port}' if ':' in address else f'{address}:{port}'
 
 
+def _address_of(end: tuple[str, int], family: int = 0) -> tuple[int, tuple[str, int]]:
+    """The first address of an end, and its family. OSError, which names it, if it has none."""
+    try:
+        found, _, _, _, address = socket.getaddrinfo(*end, family=family, type=socket.SOCK_DGRAM)[0]
+    except OSError as fault:
+        raise named(fault, _text_of(*end)) from None
+    return found, (str(address[0]), int(address[1]))
+
+
 def addresses_of(local: tuple[str, int], peer: tuple[str, int]) -> list[str]:
     """Both ends as addresses. OSError for a host that has none."""
-    family, _, _, _, far = socket.getaddrinfo(*peer, type=socket.SOCK_DGRAM)[0]
-    near = socket.getaddrinfo(*local, family=family, type=socket.SOCK_DGRAM)[0][4]
-    return [_text_of(str(near[0]), int(near[1])), _text_of(str(far[0]), int(far[1]))]
+    family, far = _address_of(peer)
+    _, near = _address_of(local, family)
+    return [_text_of(*near), _text_of(*far)]
 
 
 def can_send(ends: Sequence[str]) -> bool:

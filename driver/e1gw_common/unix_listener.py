@@ -14,6 +14,16 @@ class CannotListen(Exception):
     """Why nobody could connect."""
 
 
+def give_to_group(path: str, group: str) -> None:
+    """Gives a file to a group, by its name or its number."""
+    try:
+        os.chown(path, -1, int(group) if group.isdecimal() else grp.getgrnam(group).gr_gid)
+    except KeyError:
+        raise CannotListen(f'--control-group {group}: there is no such group') from None
+    except OSError as fault:
+        raise CannotListen(f'--control-group {group}: {fault.strerror}') from None
+
+
 def unix_listener(path: str, mode: int, group: str | None) -> socket.socket:
     """A Unix socket that listens, with its mode and group, from the moment on at which it is there."""
     line, new = socket.socket(socket.AF_UNIX), f'{path}~'
@@ -32,7 +42,7 @@ def unix_listener(path: str, mode: int, group: str | None) -> socket.socket:
     finally:
         os.umask(before)
     if group:
-        os.chown(new, -1, int(group) if group.isdecimal() else grp.getgrnam(group).gr_gid)
+        give_to_group(new, group)
     line.listen(BACKLOG)
     os.replace(new, path)
     return line

@@ -97,7 +97,7 @@ async def work(tie: Tie, site: Site, path: str | None, http: tuple[str, int] | N
         async with asyncio.timeout(LEAVES):
             await tie.restore_codecs()
     for why in filter(None, (task.exception() for task in done)):
-        print(f'e1gw-tie: {why}', file=sys.stderr)
+        print(f'e1gw-tie: {words_of_fault(why)}', file=sys.stderr)
         status = 1
     tie.tell(Ended(status))
     site.close()

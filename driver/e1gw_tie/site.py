@@ -107,7 +107,7 @@ class Site:
             except ssl.SSLError as fault:
                 self.turned_away(str(fault))
             except OSError as fault:
-                why = os.strerror(fault.errno) if fault.errno and fault.errno > 0 else str(fault) or 'no answer'
+                why = os.strerror(fault.errno) if fault.errno and fault.errno > 0 else fault.strerror or 'no answer'
                 self.turned_away(f'{host}:{port}: {why}')
             await asyncio.sleep(AGAIN)
 

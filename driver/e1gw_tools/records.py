@@ -190,7 +190,7 @@ def main() -> None:
         os.dup2(os.open(os.devnull, os.O_WRONLY), 1)
     except BadSession as bad:
         why = raw_words_of(asked.file) if asked.file else None
-        sys.exit(f'{NAME}: {bad}{f": {why}" if why else ""}')
+        sys.exit(f'{NAME}: {asked.file or "standard input"}: {bad}{f": {why}" if why else ""}')
     except (InputError, OSError) as trouble:
         sys.exit(f'{NAME}: {words_of_fault(trouble)}')
     except KeyboardInterrupt:

@@ -128,7 +128,7 @@ class TieFailureTests(unittest.IsolatedAsyncioTestCase):
             tie = mock.Mock(run=mock.AsyncMock(side_effect=fault), restore_codecs=mock.AsyncMock())
             with mock.patch('sys.stderr', new_callable=io.StringIO) as said:
                 self.assertEqual(await work(tie, mock.Mock(run=asyncio.Event().wait), None, None), status)
-            self.assertEqual(said.getvalue(), f'e1gw-tie: {fault}\n' if fault else '')
+            self.assertEqual(said.getvalue(), 'e1gw-tie: odd\n' if fault else '')
             self.assertEqual((tie.restore_codecs.await_count, tie.tell.mock_calls), (1, [mock.call(Ended(status))]))
 
 

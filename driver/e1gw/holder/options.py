@@ -116,7 +116,7 @@ def _options_of(asked: Mapping[str, str], watch: list[str], around: Mapping[str,
             raise OptionsRefused(f'{path}: a path of a socket has {MOST_PATH} octets at most')
     senders = asked['senders'] or 'host'
     if senders not in SENDERS:
-        raise OptionsRefused(f'--senders is {", ".join(SENDERS)}')
+        raise OptionsRefused(f'--senders {senders} is none of {", ".join(SENDERS)}')
     wait = number(asked, 'seizure-wait', 200, 8000, 200)
     program = program_of(asked['program'], around)
     return Options(config, program, name, folder, line_of(asked, program, folder), words_of(asked, wait),
@@ -145,7 +145,7 @@ def read(words: list[str]) -> dict[str, str]:
 def number(asked: Mapping[str, str], name: str, least: int, most: int, default: int) -> int:
     text = asked[name] or str(default)
     if not (text.isascii() and text.isdecimal() and least <= int(text) <= most):
-        raise OptionsRefused(f'--{name} is {least} to {most}')
+        raise OptionsRefused(f'--{name} {text} is not {least} to {most}')
     return int(text)
 
 

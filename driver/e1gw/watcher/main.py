@@ -221,7 +221,7 @@ def status_of(words: list[str], loop: asyncio.AbstractEventLoop) -> int:
     except InUse as fault:
         logger.error('process %s watches this trunk', fault)
         return 2
-    except (CannotListen, KeyError) as fault:
+    except CannotListen as fault:
         logger.error('cannot listen: %s', words_of_fault(fault))
         return 2
     except OSError as fault:            # (what is away may come back)

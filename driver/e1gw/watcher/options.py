@@ -18,6 +18,13 @@ WATCHED = 'config', 'control', 'http', 'json', 'calls', 'session'     # what an 
 KEPT = '/var/lib/e1gw'      # where e1gw-call looks by itself
 
 
+def mode_of(text: str) -> int:
+    """The mode of a file by its octal digits, or ValueError."""
+    if not 0 <= (mode := int(text, 8)) <= 0o777:
+        raise ValueError
+    return mode
+
+
 def add_options(words: argparse.ArgumentParser) -> None:
     """Those of e1gw-watch."""
     words.add_argument('--config', metavar='FILE', required=True, help='the configuration, e1gw.toml(5)')
@@ -34,7 +41,7 @@ def add_options(words: argparse.ArgumentParser) -> None:
 def add_reports(words: argparse._ArgumentGroup) -> None:
     """Those of control and of reports."""
     words.add_argument('--control', metavar='PATH', help='a Unix socket for commands, e1gw-ctl(1)')
-    words.add_argument('--control-mode', type=lambda text: int(text, 8), default=0o660, metavar='MODE',
+    words.add_argument('--control-mode', type=checked(mode_of, 'a mode of a file, as 660'), default=0o660, metavar='MODE',
                        help='its mode, in octal [default: 660]')
     words.add_argument('--control-group', metavar='GROUP', help='its group')
     words.add_argument('--on-loss', nargs='+', default=['keep'], metavar='WORD',

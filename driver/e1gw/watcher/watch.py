@@ -297,7 +297,7 @@ class TrunkWatch:
         self._listens = await asyncio.start_unix_server(self._server.on_connect, sock=listener, limit=MOST_LINE)
 
     async def _reopen_listener(self, path: str) -> None:
-        with contextlib.suppress(OSError, CannotListen, KeyError):
+        with contextlib.suppress(OSError, CannotListen):
             await self._listen(path)
 
     async def run(self) -> None:
