@@ -17,7 +17,7 @@ from e1gw_common.lines import OPEN, SEIZURE_WAIT
 from e1gw_common.lost import ReceivedNumbers
 from e1gw_common.session import FRAME, MULTIFRAME, OCTETS_A_SECOND, Repetitions
 from e1gw_common.session_clock import Break
-from .sound import HeardSamples, ListeningTimes
+from e1gw_common.sound import HeardSamples, ListeningTimes
 
 SECOND = OCTETS_A_SECOND
 MOST = 2400                 # columns

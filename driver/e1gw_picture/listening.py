@@ -6,9 +6,9 @@ import math
 from e1gw_common.frames import DOUBLE, is_frame
 from e1gw_common.lines import OPEN
 from e1gw_common.session import FRAME, packet_of
+from e1gw_common.sound import LOOKED_AT, HeardSamples, sample_speech, is_silent
 from .facts import BITS, Facts, Row
 from .orders import STRETCH, Orders
-from .sound import LOOKED_AT, HeardSamples, sample_speech, is_silent
 
 AGAIN = 16                  # samples at least in the page of a trunk in service
 

@@ -7,8 +7,8 @@ import subprocess
 from collections.abc import Callable, Sequence
 
 from e1gw_common.session import datagram_record
+from e1gw_common.sound import HeardSamples, compared, sound
 from .facts import BITS
-from .sound import HeardSamples, compared, sound
 
 STRETCH = 10                # consecutive datagrams
 SETTLES = 4                 # of them those before the decoder has settled, which are ignored

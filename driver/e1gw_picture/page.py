@@ -11,10 +11,10 @@ from collections.abc import Iterable, Mapping, Sequence
 from urllib.parse import quote
 
 from e1gw_common.lines import OPEN, circuit_words
+from e1gw_common.sound import HeardSamples
 from . import charts
 from .facts import SECOND, Cell, Facts, Row, joined
 from .findings import NO_FAULT, Anomaly, findings
-from .sound import HeardSamples
 from .svg import Scale, duration
 
 MOST = 1_900_000            # octets of a page

@@ -18,7 +18,7 @@ from e1gw_picture.facts import MOST, RANK, Facts, Row, Spans, Wire
 from e1gw_picture.findings import findings
 from e1gw_picture.page import MOST as MOST_OCTETS
 from e1gw_picture.page import draw
-from e1gw_picture.sound import HeardSamples
+from e1gw_common.sound import HeardSamples
 from e1gw_picture.svg import Scale, Sheet, apart, clock, duration, runs
 from e1gw_common.session_clock import Break
 from e1gw_common.session import OCTETS_A_SECOND, Codec, Kind, codec_record, records_in, trunk_record

@@ -13,7 +13,7 @@ from e1gw_common.g711 import OTHER, TONES, VALUES, level, power
 from e1gw_picture.facts import BITS
 from e1gw_picture.findings import findings
 from e1gw_picture.orders import Orders, reordered
-from e1gw_picture.sound import EACH, HeardSamples, ListeningTimes, sample_speech
+from e1gw_common.sound import EACH, HeardSamples, ListeningTimes, sample_speech
 from e1gw_common.session import Kind, packet_of, records_in
 
 LAWS = ('A', 'mu')

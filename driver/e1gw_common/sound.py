@@ -7,8 +7,8 @@ from dataclasses import dataclass, fields
 from operator import mul
 from typing import NamedTuple
 
-from e1gw_common.g711 import OTHER, VALUES, ZERO
-from e1gw_common.session import OCTETS_A_SECOND
+from .g711 import OTHER, VALUES, ZERO
+from .session import OCTETS_A_SECOND
 
 BEFORE = 8                  # samples from which the next is predicted
 LOOKED_AT = 160             # samples
