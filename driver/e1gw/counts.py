@@ -3,10 +3,11 @@ from __future__ import annotations
 
 from dataclasses import dataclass, field, replace
 from operator import add, sub
-from typing import Any, Callable
+from typing import Any, Callable, Mapping
 
 from e1gw_common.lost import ReceivedNumbers
 from e1gw_common.session import CIRCUITS, HEAD, DatagramRefusal, Kind
+from .heard_speech import HeardSpeech
 
 REASONS = (*DatagramRefusal,)       # why datagrams are refused, in the order of a line `counts` (e1gw-tell(5))
 NONE_REFUSED = (0,) * len(REASONS)
@@ -55,6 +56,7 @@ class CircuitCounts:
     told: ToldCounts = ToldCounts()         # of this session
     cause: str = ''             # of the first discard of its call, if one was told
     numbers: ReceivedNumbers = field(default_factory=ReceivedNumbers)
+    speech: HeardSpeech = field(default_factory=HeardSpeech)
 
     @property
     def stream(self) -> ToldCounts:
@@ -71,6 +73,7 @@ class CircuitCounts:
         """What comes from now on is of another call, whose peer may number anew."""
         self.cause = ''
         self.numbers.begin()
+        self.speech.begin()
 
     def commit(self) -> None:
         """All of this is of one moment."""
@@ -113,9 +116,10 @@ class DatagramCounts:
     def go_on(self, known: DatagramCounts) -> None:
         """What was told up to now is what is known of each circuit."""
         for n, row in self.circuits.items():
-            its, told = known.circuits[n].stream, row.told
-            row.before = ToldCounts(its.accepted - told.accepted, 0, tuple(map(sub, its.refused, told.refused)))
-            row.cause, row.numbers = known.circuits[n].cause, known.circuits[n].numbers
+            stream, told = known.circuits[n].stream, row.told
+            row.before = ToldCounts(stream.accepted - told.accepted, 0, tuple(map(sub, stream.refused, told.refused)))
+            its = known.circuits[n]
+            row.cause, row.numbers, row.speech = its.cause, its.numbers, its.speech
 
     def take_records(self, octets: bytes) -> None:
         """Whole records of the log: the datagrams that have come."""
@@ -124,13 +128,20 @@ class DatagramCounts:
             kind, circuit, length = unpack(octets, at)
             at += HEAD.size
             if kind == datagram:
-                self.circuits[circuit].numbers.take(octets, at, length)
+                row = self.circuits[circuit]
+                row.numbers.take(octets, at, length)
+                row.speech.take(octets, at, length)
             at += length
 
     def skip(self) -> None:
         """A part of the log was not read."""
         for row in self.circuits.values():
             row.numbers.begin()
+
+    def hear(self, codecs: Mapping[int, str]) -> None:
+        """The codecs of the circuits that are in a call."""
+        for n, row in self.circuits.items():
+            row.speech.codec = codecs.get(n, '')
 
     def take_causes(self, known: DatagramCounts) -> None:
         """The causes are those that are known of the calls of now."""
@@ -158,4 +169,5 @@ class DatagramCounts:
         """The counts of a circuit, as plain values."""
         row = self.circuits[circuit]
         return {'datagrams': row.counts(), 'lost': row.numbers.count_lost,
-                'jitter_ms': round(row.stream.jitter / SAMPLES, 2), 'stale': self.stale()}
+                'jitter_ms': round(row.stream.jitter / SAMPLES, 2), 'stale': self.stale(),
+                'speech': row.speech.why_wrong() or None}

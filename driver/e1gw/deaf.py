@@ -11,6 +11,7 @@ from e1gw_common.session import OCTETS_A_SECOND, DatagramRefusal
 from e1gw_common.session_clock import second_of
 from .counts import REASONS, ToldCounts
 from .events import CallsDeaf, Tell
+from .heard_speech import SOUNDS_WRONG
 
 DEAF_AFTER = 2 * OCTETS_A_SECOND        # octets of the trunk
 HEARS_NOTHING, NO_PACKETS = 'hears nothing', 'no packets'
@@ -84,18 +85,20 @@ class DeafCalls:
 
 
 def words_of_row(row: Mapping[str, object]) -> str:
-    """That a circuit of a status hears nothing; nothing if it hears, or if its service does not know."""
-    return f'{HEARS_NOTHING}: {row["deaf"]}' if row.get('deaf') else ''
+    """That a circuit of a status hears nothing, or sounds wrong; nothing if neither, or if its service does not know."""
+    if row.get('deaf'):
+        return f'{HEARS_NOTHING}: {row["deaf"]}'
+    return f'{SOUNDS_WRONG}: {row["speech"]}' if row.get('speech') else ''
 
 
 def words_of_rows(rows: Iterable[Mapping[str, object]]) -> str:
-    """Which circuits of a status hear nothing, by the cause."""
-    circuits = dict[object, list[int]]()
+    """Which circuits of a status hear nothing, or sound wrong, by the cause."""
+    circuits = dict[str, dict[str, list[int]]]()
     for row in rows:
-        if row.get('deaf'):
-            circuits.setdefault(row['deaf'], []).append(int(str(row['circuit'])))
-    told = ', '.join(f'{circuit_words(its)} ({why})' for why, its in circuits.items())
-    return f'{HEARS_NOTHING}: {told}' if told else ''
+        what, _, why = words_of_row(row).partition(': ')
+        circuits.setdefault(what, {}).setdefault(why, []).append(int(str(row['circuit'])))
+    return '; '.join(f'{what}: ' + ', '.join(f'{circuit_words(its)} ({why})' for why, its in whys.items())
+                     for what, whys in circuits.items() if what)
 
 
 def why_call_deaf(call: CallLine) -> str:

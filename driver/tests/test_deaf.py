@@ -78,7 +78,7 @@ class HearingTests(unittest.TestCase):
             'circuits 3 hear nothing: over'])
 
 
-class DeafTrunkTests(TrunkWatchCase):
+class DeafTrunkCase(TrunkWatchCase):
     """A trunk with a good call, one whose packets are refused, and one to which none come."""
 
     async def deaf(self) -> Any:
@@ -94,6 +94,8 @@ class DeafTrunkTests(TrunkWatchCase):
             found._check()
         return found
 
+
+class DeafTrunkTests(DeafTrunkCase):
     async def test_where_it_is_shown(self) -> None:
         found = await self.deaf()
         status = found._values() | {'crc4': None, 'transport': {}}

@@ -28,7 +28,7 @@ ROW: dict[str, Any] = {
     'circuit': 7, 'role': 'incoming', 'state': 'answered', 'sent': '01', 'recognised': '00', 'for': 12.34,
     'seizures': 5, 'answers': 4, 'unacknowledged': 3, 'faults': 2, 'open': 67.89, 'codec': 'g726-32',
     'jitter_buffer_ms': 40.0, 'datagrams': {'sent': 101, 'admitted': 102, 'Late': 6, 'Full': 8}, 'lost': 9,
-    'jitter_ms': 1.2344, 'blocked': None, 'deaf': None, 'payload': 96, 'configured_codec': 'g726-32',
+    'jitter_ms': 1.2344, 'blocked': None, 'deaf': None, 'speech': None, 'payload': 96, 'configured_codec': 'g726-32',
     'configured_payload': 96,
     'socket': {'waiting': 13, 'dropped': 14}}
 IDLE: dict[str, Any] = ROW | {'circuit': 8, 'state': 'idle', 'datagrams': {'sent': 0, 'admitted': 0}, 'socket': None}

@@ -93,7 +93,7 @@ def state_words(status: Mapping[str, Any], row: Mapping[str, Any]) -> str:
 
 def look_of_circuit(status: Mapping[str, Any], row: Mapping[str, Any]) -> Look:
     """That of a circuit, as far as is known."""
-    is_bad = not status.get('fault') and bool(row.get('deaf') or row['state'] == State.FAULT)
+    is_bad = not status.get('fault') and bool(words_of_row(row) or row['state'] == State.FAULT)
     return Look.BAD if is_bad else Look.PLAIN
 
 
