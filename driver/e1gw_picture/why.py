@@ -17,15 +17,16 @@ from .svg import duration
 LAST = 30.0                 # seconds that are looked at
 
 
-def last_facts(path: str, circuit: int, seconds: float = LAST) -> Facts:
-    """The facts of a circuit, and of the trunk, in the last seconds of a session or of a folder of them: what was
-    before is replayed alone. OSError or InputError if it cannot be read."""
+def last_facts(path: str, circuit: int, config: str | None = None, seconds: float = LAST) -> Facts:
+    """The facts of a circuit, and of the trunk, in the last seconds of a session or of a folder of them, which may not
+    say its configuration: what was before is replayed alone. OSError or InputError if it cannot be read."""
     session = open_session(path, round(seconds * OCTETS_A_SECOND))
-    if not session.config:
+    config = session.config or config
+    if not config:
         raise InputError(NO_CONFIG)
     end = os.stat(session.files[-1]).st_mtime
     place = session.clock.place(end - seconds) if session.begin is not None else 0
-    begun, octets = begin_at(session, place, circuit, session.config, None)
+    begun, octets = begin_at(session, place, circuit, config, None)
     facts = facts_of(begun)
     SessionReading(facts, begun.replay, begun.program, begun.place, circuit).read(octets)
     begun.replay.end()

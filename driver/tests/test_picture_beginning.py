@@ -11,7 +11,7 @@ from unittest import mock
 from . import support
 from .picture_made import MadeSession, PictureSender, coded, packets, page_of
 from e1gw.recording_ring import Ring
-from e1gw_common.session_files import open_session
+from e1gw_common.session_files import InputError, open_session
 from e1gw_picture.beginning import begin
 from e1gw_picture.facts import Facts
 from e1gw_picture.main import gathered
@@ -168,13 +168,23 @@ class WhyTests(RingCase):
         last = sorted(os.path.join(self.ring, name) for name in os.listdir(self.ring) if name.endswith('.e1gw'))[-1]
         os.utime(last, (BEGIN + 4.0, BEGIN + 4.0))
         with mock.patch.dict(os.environ, E1GW=self.program):
-            lines, others = ([*finding_lines(last_facts(self.ring, n, 1.8), n)] for n in (3, 4))
+            lines, others = ([*finding_lines(last_facts(self.ring, n, seconds=1.8), n)] for n in (3, 4))
         self.assertRegex(lines[0], r'^circuit 3, idle at the end, in the last (1\.\d+|2\.00) s up to \d\d:\d\d:04$')
         self.assertRegex('\n'.join(lines[1:]), r'^circuit 3: (\d+) of \1 packets were discarded as PayloadType: type 0 '
                          r'came, the circuit has 8\n    the sender has the other law')
         self.assertEqual((good in lines, others[-1]), (False, good))
         self.assertRegex('\n'.join(others), r'circuit 4: .* discarded as NotOpen: .*\n    harmless: the sender speaks ')
         self.assertFalse([line for line in others if 'circuit 3' in line])
+
+    def test_a_session_of_one_file(self) -> None:
+        """It does not say its configuration: the trunk does."""
+        made = MadeSession(2.0, {3: {'prefill': 320}})
+        made.call(3, 0.1, 1.8)
+        path, config = self.write('trunk.rec', b''.join(made.given())), self.write('trunk.toml', made.config())
+        self.assertRaisesRegex(InputError, 'no configuration', last_facts, path, 3)
+        with mock.patch.dict(os.environ, E1GW=support.program()):
+            lines = '\n'.join(finding_lines(last_facts(path, 3, config), 3))
+        self.assertIn('and no datagram came', lines)
 
     def test_a_call_that_is_sent_back(self) -> None:
         """A sender of the other law, whom the exchange sends back, beside a call that reads like the law of the trunk,
@@ -191,6 +201,6 @@ class WhyTests(RingCase):
         last = sorted(os.path.join(self.ring, name) for name in os.listdir(self.ring) if name.endswith('.e1gw'))[-1]
         os.utime(last, (BEGIN + 12.0, BEGIN + 12.0))
         with mock.patch.dict(os.environ, E1GW=self.program):
-            lines = '\n'.join(finding_lines(last_facts(self.ring, 3, 5.9), 3))
+            lines = '\n'.join(finding_lines(last_facts(self.ring, 3, seconds=5.9), 3))
         self.assertIn('the datagrams received read like mu-law', lines)
         self.assertNotIn('the time slot', lines)
