@@ -43,7 +43,7 @@ class HeardSpeech:
         if self._last and packet.sequence == self._last[0] + 1 & 0xFFFF:
             step = packet.timestamp - self._last[1] & 0xFFFFFFFF
             self._gaps = (self._gaps << 1 | (samples < step)) & (1 << ALL) - 1
-            self._words = f'{samples} samples in a packet, whose time is that of {step}'
+            self._words = f'{samples} of {step} samples a packet'
         if law := G711.get(self.codec):
             self._heard.join(sample_speech(packet.payload, law))
         self._looks += 1

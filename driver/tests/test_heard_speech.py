@@ -40,11 +40,11 @@ class HeardSpeechTests(unittest.TestCase):
     def test_gaps(self) -> None:
         """Where packets have fewer samples than their timestamps go on by, and not where some are lost."""
         for octets, codec, step, lost, words in (
-                (80, 'pcma', STEP, 0, '80 samples in a packet, whose time is that of 160'),
-                (80, 'pcma', STEP, 11, '80 samples in a packet, whose time is that of 160'),
-                (160, 'pcma', STEP, 3, ''), (160, 'pcma', 163, 0, '160 samples in a packet, whose time is that of 163'),
+                (80, 'pcma', STEP, 0, '80 of 160 samples a packet'),
+                (80, 'pcma', STEP, 11, '80 of 160 samples a packet'),
+                (160, 'pcma', STEP, 3, ''), (160, 'pcma', 163, 0, '160 of 163 samples a packet'),
                 (160, 'pcma', 157, 0, ''), (80, 'g726-32', STEP, 0, ''), (60, 'g726-24', STEP, 0, ''),
-                (40, 'g726-32', STEP, 0, '80 samples in a packet, whose time is that of 160')):
+                (40, 'g726-32', STEP, 0, '80 of 160 samples a packet')):
             found = heard([b'\xd5' * octets] * 150, codec, step, lost)
             self.assertEqual(found.why_wrong(), words, (octets, codec, step, lost))
 
