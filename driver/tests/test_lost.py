@@ -2,11 +2,14 @@
 shown."""
 from __future__ import annotations
 
+import itertools
 import re
 import socket
+import time
 import unittest
 import urllib.request
-from typing import Any, Iterable, Iterator, Mapping
+from collections import Counter
+from typing import Any, Iterable, Iterator, Mapping, NamedTuple
 from unittest import mock
 
 from . import support
@@ -18,10 +21,12 @@ from .test_trunk import aligned, call
 from .test_watch import TrunkWatchCase
 from .world import World
 from e1gw_common.call_lines import CallLine, read_calls
+from e1gw.call_sums import sums_of
 from e1gw.ctl_all import TrunkLine
+from e1gw_common.frames import FrameSearch
 from e1gw_common.lost import AHEAD, IN_A_ROW, WINDOW, ReceivedNumbers
 from e1gw_picture.facts import Cell
-from e1gw_common.session import Kind, datagram_record, name_of, records_in
+from e1gw_common.session import CIRCUITS, FRAME, Command, Kind, datagram_record, name_of, records_in
 from e1gw_testing.ports import free_port, free_ports
 
 COUNT, FIRST = 120, 65_500          # packets of a call, and the first number
@@ -148,7 +153,7 @@ def stranger() -> Plan:
 FAULTS: dict[int, tuple[Plan, set[str]]] = {
     1: ([*plan({10, 11, 50, 118})], set()), 2: ([*plan({5}, n20=10, n21=10, n60=12)], {'Late'}),
     3: (sorted([*plan({33}), *(each for each in plan({33}) if each[1] % 10 == 0)]), {'Repeat'}),
-    4: ([*plan({70}, n15=1, n40=1)], set()),
+    4: ([*plan({70}, n15=1, n40=1, n116=1, n118=1)], set()),
     5: ([(turn, n, ssrc, 13 if n % 3 == 0 else kind) for turn, n, ssrc, kind in plan({31, 32})], {'PayloadType'}),
     6: ([(turn, n, ssrc, 13) for turn, n, ssrc, _ in plan({21, 22, 23})], {'PayloadType'}),
     7: ([*stranger()], {'WrongSource'}),
@@ -167,6 +172,8 @@ def judged(config: str, session: bytes) -> dict[int, Figures]:
     with configured(config) as path:
         given = support.run('replay', '--config', path, given=session)
     for record in records_in(given):
+        if record.circuit not in found:
+            continue
         if record.kind is Kind.DATAGRAM:
             count(found[record.circuit], 'sent')
         elif record.kind is Kind.ANSWER and record.body[0] == Kind.DATAGRAM:
@@ -174,6 +181,79 @@ def judged(config: str, session: bytes) -> dict[int, Figures]:
             for name in ('discarded', refusal.label) if refusal else ('received',):
                 count(its, name)
     return found
+
+
+# ---- calls and jitter, by the session ----
+
+class LineFigures(NamedTuple):
+    """Of a circuit: how often it was seized and answered, and the jitter of its packets."""
+
+    seizures: int
+    answers: int
+    jitter_ms: float
+
+
+class Jitter:
+    """That of packets that were accepted (RFC 3550, A.8)."""
+
+    def __init__(self) -> None:
+        self._sixteenths = 0
+        self._transit: int | None = None
+
+    def take(self, place: int, datagram: bytes) -> None:
+        """A packet that came behind so many octets of the trunk."""
+        transit = place // FRAME - int.from_bytes(datagram[4:8])
+        if self._transit is not None:
+            self._sixteenths += abs(transit - self._transit) - (self._sixteenths + 8) // 16
+        self._transit = transit
+
+    @property
+    def ms(self) -> float:
+        return self._sixteenths // 16 / 8
+
+
+def answers_in(came: bytes) -> dict[int, int]:
+    """How often each circuit was answered: its bits of slot 16 are 11 and then 01, each for ten multiframes
+    (ITU-T Q.421)."""
+    slots = bytes(octet for _, pairs in FrameSearch().take(came) for octet in pairs[16::FRAME])
+    first, found = next(at for at in range(16) if {*slots[at:at + 320:16]} == {0x0B}), {}
+    for n in CIRCUITS:
+        bits = [octet >> (2 if n > 15 else 6) & 3 for octet in slots[first + (n - 1) % 15 + 1::16]]
+        long = [pair for pair, run in itertools.groupby(bits) if len([*run]) >= 10]
+        found[n] = sum(pair == (0b11, 0b01) for pair in itertools.pairwise(long))
+    return found
+
+
+def lines_in(config: str, session: bytes) -> dict[int, LineFigures]:
+    """What a session says of each circuit: a seizure is a command that a replay of it does."""
+    with configured(config) as path:
+        replies = records_in(support.run('replay', '--config', path, given=session))
+    answers = iter([each for each in replies if each.kind is Kind.ANSWER])
+    came, seizures, jitters = bytearray(), Counter[int](), {n: Jitter() for n in CIRCUITS}
+    for record in records_in(session):
+        if record.kind is Kind.TRUNK:
+            came += record.body
+        elif not next(answers).refusal:
+            seizures[record.circuit] += record.kind is Kind.COMMAND and record.body[0] == Command.SEIZE
+            if record.kind is Kind.DATAGRAM:
+                jitters[record.circuit].take(len(came), record.body)
+    answered = answers_in(bytes(came))
+    return {n: LineFigures(seizures[n], answered[n], jitters[n].ms) for n in CIRCUITS}
+
+
+def table_lines(text: str) -> dict[int, LineFigures]:
+    """The same in a table of the status."""
+    rows = (row for line in text.splitlines() if ' outgoing ' in line and (row := line.split()))
+    return {int(row[0]): LineFigures(int(row[6]), int(row[7]), float(row[14])) for row in rows}
+
+
+def metric_lines(text: str) -> dict[int, LineFigures]:
+    """The same in metrics."""
+    def family(name: str) -> dict[int, float]:
+        return {int(n): float(value) for n, value in re.findall(
+            rf'(?m)^e1gw_{name}\{{.*circuit="(\d+)".*\}} ([\d.e-]+)$', text)}
+    seizures, answers, jitters = map(family, ('circuit_seizures_total', 'circuit_answers_total', 'rtp_jitter_seconds'))
+    return {n: LineFigures(int(seizures[n]), int(answers[n]), 1000 * jitters[n]) for n in CIRCUITS}
 
 
 def count(figures: Figures, name: str) -> None:
@@ -232,6 +312,40 @@ class ShownFigureTests(unittest.TestCase):
         with urllib.request.urlopen(request, timeout=support.SECONDS) as answer:
             return str(answer.read().decode())
 
+    def call_more(self) -> None:
+        """Circuit 9 has a call that ends and another one, and nobody answers circuit 10."""
+        for _ in range(2):
+            call(self.world, 9)
+            self.world.ask('clear 9')
+            self.world.step(30)
+        self.world.answers = False
+        self.world.ask('seize 10')
+        self.world.until(lambda: self.world.state(10) == 'idle')
+        self.world.answers = True
+
+    def shown_lines(self) -> dict[str, dict[int, LineFigures]]:
+        """What is shown of each circuit's calls and jitter."""
+        status, cells = self.world.status(), ShownTables(self.got('/')).rows
+        its = {row['circuit']: LineFigures(row['seizures'], row['answers'], row['jitter_ms'])
+               for row in status['circuits']}
+        return {'status': its, 'table': table_lines(self.world.ask('status')),
+                'metrics': metric_lines(self.got('/metrics')),
+                'page': {n: its[n]._replace(jitter_ms=float(cells[f'c{n}'][0][6])) for n in FAULTS}}
+
+    def compare_lines(self, shown: Mapping[str, Mapping[int, LineFigures]], session: bytes) -> None:
+        """Calls and jitter that were shown are those of the session."""
+        found = lines_in(self.config, session)
+        self.assertEqual([(found[n].seizures, found[n].answers) for n in (1, 9, 10, 11)], [(1, 1), (2, 2), (1, 0), (0, 0)])
+        self.assertGreater(found[4].jitter_ms, 2)
+        for what, each in shown.items():
+            for n, its in each.items():
+                self.assertEqual((its.seizures, its.answers), (found[n].seizures, found[n].answers), (what, n))
+                self.assertAlmostEqual(its.jitter_ms, found[n].jitter_ms, msg=f'{what} {n}',
+                                       delta=0.051 if what in ('table', 'page') else 0.006)
+        sums = sums_of(read_calls(self.world.path('calls')), time.time())
+        self.assertEqual((sums.calls, sums.answered),
+                         (sum(its.seizures for its in found.values()), sum(its.answers for its in found.values())))
+
     def shown(self) -> dict[str, dict[int, Figures]]:
         """What is shown of each circuit while calls last."""
         status, cells, metrics = self.world.status(), ShownTables(self.got('/')).rows, self.got('/metrics')
@@ -256,12 +370,13 @@ class ShownFigureTests(unittest.TestCase):
 
     def test_alike_everywhere(self) -> None:
         world = aligned(self.world)
+        self.call_more()
         for circuit in FAULTS:
             call(world, circuit)
         self.send_all()
         sent = {n: len([*packets]) for n, (packets, _) in FAULTS.items()}
         world.until(lambda: self.came() == sent)
-        found = self.shown()
+        found, lines = self.shown(), self.shown_lines()
         for circuit in FAULTS:
             world.ask(f'clear {circuit}')
         world.until(lambda: {row['state'] for row in world.told()['circuits'] if row['circuit'] in FAULTS} == {'idle'})
@@ -269,6 +384,7 @@ class ShownFigureTests(unittest.TestCase):
         world.quit()
         found['csv'] = {int(each.circuit): of_line(each) for each in read_calls(world.path('calls'))}
         session = support.octets_of(world.path('session'))
+        self.compare_lines(lines, session)
         facts, expected = read_session(self.config, session), judged(self.config, session)
         found['picture'] = {n: drawn_figures(facts.rows[n].count()) for n in FAULTS}
         for what, each in found.items():
