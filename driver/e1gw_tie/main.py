@@ -47,8 +47,8 @@ def parser() -> argparse.ArgumentParser:
     add_tls(made.add_mutually_exclusive_group(), 'site')
     made.add_argument('--peer', metavar='NAME', help='with --tls, the host or address in the certificate of the other '
                       'site [default: the host of --connect; with --listen any that CA has signed]')
-    made.add_argument('--hold', type=number(0, 3600, float), default=5.0, metavar='SECONDS', help='how long calls '
-                      'are kept without the other end [default: 5]')
+    made.add_argument('--hold', type=number(0, 3600, float), default=15.0, metavar='SECONDS', help='how long calls '
+                      'are kept without the other end [default: 15]')
     made.add_argument('--congestion', choices=('clear-back', 'wait'), default='clear-back', help='a call that cannot '
                       'be set up is answered and cleared back, or the caller waits [default: clear-back]')
     made.add_argument('--until-answer', choices=tuple(SIGNALLING), help='calls use G.711 until they are answered, '
