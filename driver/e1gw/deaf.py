@@ -85,7 +85,7 @@ class DeafCalls:
 
 
 def words_of_row(row: Mapping[str, object]) -> str:
-    """That a circuit of a status hears nothing, or sounds wrong; nothing if neither, or if its service does not know."""
+    """That a circuit of a status hears nothing, or sounds wrong; nothing if neither, or if that is not known."""
     if row.get('deaf'):
         return f'{HEARS_NOTHING}: {row["deaf"]}'
     return f'{SOUNDS_WRONG}: {row["speech"]}' if row.get('speech') else ''

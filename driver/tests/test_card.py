@@ -150,7 +150,7 @@ class SetUpTests(unittest.TestCase):
         self.assertIn('SupplementaryGroups=', card_opening.card_advice(os.devnull, errno.EACCES))
         for number in errno.EACCES, errno.EPERM:
             fault = card_opening.with_advice(OSError(number, os.strerror(number), os.devnull), os.devnull)
-            self.assertRegex(fault.strerror or '', f'/dev/null: .*; .* DeviceAllow=/dev/null rw .* SupplementaryGroups=root')
+            self.assertRegex(fault.strerror or '', '/dev/null: .* DeviceAllow=/dev/null rw .* SupplementaryGroups=root')
         with tempfile.NamedTemporaryFile() as alone:
             self.assertIn('e1gw.rules', card_opening.card_advice(alone.name, errno.EACCES))
 

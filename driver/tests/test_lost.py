@@ -335,7 +335,8 @@ class ShownFigureTests(unittest.TestCase):
     def compare_lines(self, shown: Mapping[str, Mapping[int, LineFigures]], session: bytes) -> None:
         """Calls and jitter that were shown are those of the session."""
         found = lines_in(self.config, session)
-        self.assertEqual([(found[n].seizures, found[n].answers) for n in (1, 9, 10, 11)], [(1, 1), (2, 2), (1, 0), (0, 0)])
+        self.assertEqual([(found[n].seizures, found[n].answers) for n in (1, 9, 10, 11)],
+                         [(1, 1), (2, 2), (1, 0), (0, 0)])
         self.assertGreater(found[4].jitter_ms, 2)
         for what, each in shown.items():
             for n, its in each.items():
