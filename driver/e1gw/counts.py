@@ -138,10 +138,11 @@ class DatagramCounts:
         for row in self.circuits.values():
             row.numbers.begin()
 
-    def hear(self, codecs: Mapping[int, str]) -> None:
-        """The codecs of the circuits that are in a call."""
+    def listen_to(self, codecs: Mapping[int, str]) -> dict[int, ToldCounts]:
+        """Listens to the circuits that are in a call, by their codecs; what was counted of these."""
         for n, row in self.circuits.items():
             row.speech.codec = codecs.get(n, '')
+        return {n: self.circuits[n].stream for n in codecs}
 
     def take_causes(self, known: DatagramCounts) -> None:
         """The causes are those that are known of the calls of now."""

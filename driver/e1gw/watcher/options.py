@@ -41,8 +41,8 @@ def add_options(words: argparse.ArgumentParser) -> None:
 def add_reports(words: argparse._ArgumentGroup) -> None:
     """Those of control and of reports."""
     words.add_argument('--control', metavar='PATH', help='a Unix socket for commands, e1gw-ctl(1)')
-    words.add_argument('--control-mode', type=checked(mode_of, 'a mode of a file, as 660'), default=0o660, metavar='MODE',
-                       help='its mode, in octal [default: 660]')
+    words.add_argument('--control-mode', type=checked(mode_of, 'a mode of a file, as 660'), default=0o660,
+                       metavar='MODE', help='its mode, in octal [default: 660]')
     words.add_argument('--control-group', metavar='GROUP', help='its group')
     words.add_argument('--on-loss', nargs='+', default=['keep'], metavar='WORD',
                        help='keep, clear SECONDS, or block SECONDS: what is done with the calls when the last '

@@ -317,9 +317,8 @@ class TrunkWatch:
             self._tasks.begin(self._reopen_listener(self.wants.control))
         self.status.look_at_flow(now)
         if self._lines.live:
-            answered = {n: line for n, line in self._lines.lines.items() if line.state is State.ANSWERED}
-            self._deaf.look(self._lines.place, {n: self.counts.circuits[n].stream for n in answered})
-            self.counts.hear({n: line.codec for n, line in answered.items()})
+            self._deaf.look(self._lines.place, self.counts.listen_to({
+                n: line.codec for n, line in self._lines.lines.items() if line.state is State.ANSWERED}))
         self._restarts.look(now, self._lines.place, self._lines.open_circuits(), not self.counts.stale())
         self.disconnects.look(now)
         self.blocks.look()
