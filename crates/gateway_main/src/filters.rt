@@ -104,7 +104,7 @@ pub(crate) fn align(input: Stdin, output: Stdout) -> Result<Totals, ProgramFault
 /// fails.
 #[inline(never)]
 pub(crate) fn crc4(
-    rt: &(impl Files<File = File> + Eprint),
+    rt: &(impl Files<File = File> + Eprint + AllocGlobal),
     options: &Crc4Options<'_>,
     input: Stdin,
     output: Stdout,

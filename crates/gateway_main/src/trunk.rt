@@ -7,9 +7,16 @@ use gw_open::{
 use gw_report::ProgramFault;
 use gw_session::{Tape, Totals};
 use run_trunk::{open_trunk, serve};
+use std::alloc::{AllocError, Global};
 use std::fs::File;
 use std::net::Net;
 use std::rt::{Files, Stderr, Stdin, Stdout};
+
+// The fault if the log of a trunk took a write no more.
+fn log_lost(alloc: Global, options: &TrunkOptions<'_>) -> Result<ProgramFault, AllocError> {
+    let folder = options.log.unwrap_or("");
+    Ok(ProgramFault::LogLost(String::from_str(alloc, folder)?))
+}
 
 /// Serves the trunk at standard input and output. The folder of its log, if it has one, is locked meanwhile.
 #[inline(never)]
@@ -34,7 +41,7 @@ pub(crate) fn run(
     }
     let told = end_session(rt, &options.session, &config, &gateway, end.ended);
     if log.is_lost() {
-        return Err(ProgramFault::LogLost);
+        return Err(log_lost(rt.alloc(), options)?);
     }
     if told.is_ok() && options.session.totals {
         end.tell(rt);

@@ -15,5 +15,5 @@ pub use file_log::LogFault;
 pub use log_contents::{LogContents, PairOctets};
 pub use resuming::{Found, resumed_of};
 pub use room::fill_file;
-pub use state::loaded_of;
+pub use state::{ResumeFault, loaded_of};
 pub use trunk_log::{TrunkLog, log_behind};

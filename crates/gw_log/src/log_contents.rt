@@ -3,11 +3,11 @@
 ghost use Rattle.std.specs.Prelude.{◌≡◌, IfOk, IfErr, IfSome, true, false};
 ghost use Rattle.log_files.specs.Area.{IsBlank};
 ghost use Rattle.log_files.specs.Loading as loading;
-ghost use Rattle.gw_report.specs.declared.program_fault.ProgramFault.TheVariants.{BadLog};
 ghost use Rattle.gw_log.specs.LogContents.{contents_of};
 ghost use Rattle.gw_log.specs.Resuming.{AreDamaged, IsFoundIn};
+ghost use Rattle.gw_log.specs.declared.state.ResumeFault.TheVariants.{Damaged};
 
-use gw_report::ProgramFault;
+use crate::state::ResumeFault;
 use log_files::{Loaded, PairContents, is_blank, newest};
 
 /// What a pair of files has: of each its head, and what this says is behind.
@@ -63,12 +63,12 @@ impl LogContents {
     ///
     /// # Errors
     ///
-    /// [`ProgramFault::BadLog`] if something was kept and nothing is whole, or it is not known which is
+    /// [`ResumeFault::Damaged`] if something was kept and nothing is whole, or it is not known which is
     /// newer.
-    pub fn newest(&self) -> Result<Option<Loaded<'_>>, ProgramFault>
+    pub fn newest(&self) -> Result<Option<Loaded<'_>>, ResumeFault>
         ensures ok { IfOk result (IsFoundIn (contents_of self.now.first) (contents_of self.now.second)) }
         ensures counted { IfOk result (λ found. IfSome found loading.IsCounted) }
-        ensures err { IfErr result (λ fault. (fault ≡ BadLog)
+        ensures err { IfErr result (λ fault. (fault ≡ Damaged)
             × AreDamaged (contents_of self.now.first) (contents_of self.now.second)) }
     {
         match newest(&self.first.contents(), &self.second.contents()) {
@@ -77,10 +77,10 @@ impl LogContents {
                 if self.are_blank() {
                     Ok(None)
                 } else {
-                    Err(ProgramFault::BadLog)
+                    Err(ResumeFault::Damaged)
                 }
             }
-            Err(_) => Err(ProgramFault::BadLog),
+            Err(_) => Err(ResumeFault::Damaged),
         }
     }
 }

@@ -8,9 +8,8 @@ ghost use Rattle.gw_log.specs.Resuming.{GoesOnWith, HaveSameCircuits, IsFromLog,
 ghost use Rattle.gw_log.specs.Resuming.{AreNewFiles, WasGivenAll};
 
 use crate::log_contents::LogContents;
-use crate::state::{load_trouble, loaded_of};
+use crate::state::{ResumeFault, load_trouble, loaded_of};
 use gw_circuit::CircuitConfig;
-use gw_report::ProgramFault;
 use gw_session::{Nowhere, RunFault, Source, SourceFault, run};
 use gw_state::{load_gateway, state_file};
 use gw_switch::{Gateway, GatewayConfig};
@@ -52,15 +51,15 @@ impl Source for KeptRecords<'_> {
 }
 
 // The fault if a gateway does not take the records of a log.
-fn run_trouble(fault: RunFault) -> ProgramFault {
+fn run_trouble(fault: RunFault) -> ResumeFault {
     match fault {
-        RunFault::OutOfMemory => ProgramFault::OutOfMemory,
-        _ => ProgramFault::BadLog,
+        RunFault::OutOfMemory => ResumeFault::OutOfMemory,
+        _ => ResumeFault::Damaged,
     }
 }
 
 // Gives a gateway what the records say that octets spell. What answers them goes nowhere.
-fn give_all(alloc: Global, gateway: &mut Gateway, records: &[u8]) -> Result<(), ProgramFault>
+fn give_all(alloc: Global, gateway: &mut Gateway, records: &[u8]) -> Result<(), ResumeFault>
     requires { length records.now < 2 ^ 32 }
     ensures { OnOk result (WasGivenAll records.now gateway.old gateway.new) }
 {
@@ -79,7 +78,7 @@ fn replayed(
     alloc: Global,
     config: &GatewayConfig,
     kept: &KeptContents<'_>,
-) -> Result<Gateway, ProgramFault>
+) -> Result<Gateway, ResumeFault>
     requires { length kept.now.records.now < 2 ^ 32 }
     ensures { IfOk result (λ gateway. (loaded : Loaded)
         × IsReplayed (kept_of kept.now) config.now loaded gateway) }
@@ -121,12 +120,12 @@ fn renewed(
     old: &GatewayConfig,
     config: &GatewayConfig,
     gateway: &Gateway,
-) -> Result<Gateway, ProgramFault>
+) -> Result<Gateway, ResumeFault>
     requires { ¬ HaveSameCircuits old.now config.now 30 }
     ensures { IfOk result (GoesOnWith old.now config.now gateway.now) }
 {
     let Ok(state) = state_file(alloc, old, gateway) else {
-        return Err(ProgramFault::OutOfMemory);
+        return Err(ResumeFault::OutOfMemory);
     };
     match load_gateway(alloc, config, state.as_slice()) {
         Ok(loaded) => Ok(loaded.gateway),
@@ -139,7 +138,7 @@ fn resumed(
     alloc: Global,
     config: &GatewayConfig,
     kept: &KeptContents<'_>,
-) -> Result<Found, ProgramFault>
+) -> Result<Found, ResumeFault>
     requires { length kept.now.records.now < 2 ^ 32 }
     ensures { IfOk result (λ resumed. IsResumed (kept_of kept.now) config.now resumed.gateway) }
 {
@@ -164,13 +163,13 @@ fn resumed(
 ///
 /// # Errors
 ///
-/// [`ProgramFault::BadLog`] if something was kept and nothing is whole, [`ProgramFault::State`] if the state
-/// is of another version, [`ProgramFault::OutOfMemory`].
+/// [`ResumeFault::Damaged`] if something was kept and nothing is whole, [`ResumeFault::State`] if the state
+/// is of another version, [`ResumeFault::OutOfMemory`].
 pub fn resumed_of(
     alloc: Global,
     config: &GatewayConfig,
     contents: &LogContents,
-) -> Result<Option<Found>, ProgramFault>
+) -> Result<Option<Found>, ResumeFault>
     ensures some { IfOk result (λ found. IfSome found (λ resumed. IsFromLog (contents_of contents.now.first)
         (contents_of contents.now.second) config.now resumed.gateway)) }
     ensures none { IfOk result (λ found. found ≡ None → AreNewFiles (contents_of contents.now.first)

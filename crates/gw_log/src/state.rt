@@ -3,7 +3,6 @@
 ghost use Rattle.std.specs.Prelude.{◌≡◌, IfOk, true, false};
 ghost use Rattle.gw_log.specs.State.{IsCheckpoint, IsStateIn, WasLoaded};
 
-use gw_report::ProgramFault;
 use gw_state::{LoadFault, Loaded, load_gateway};
 use gw_switch::GatewayConfig;
 use std::alloc::Global;
@@ -33,11 +32,24 @@ fn state_in(octets: &[u8]) -> &[u8]
     }
 }
 
+/// Why no gateway goes on from the file of a state, or from a log.
+#[derive(Clone, Copy, Debug, PartialEq, Eq)]
+pub enum ResumeFault {
+    /// Memory was refused.
+    OutOfMemory,
+    /// The file has more octets than any state.
+    TooLong,
+    /// The files of the log have nothing that can be loaded, and are not new.
+    Damaged,
+    /// The octets are no state of this configuration.
+    State(LoadFault),
+}
+
 // The fault if octets are not loaded.
-pub(crate) fn load_trouble(fault: LoadFault) -> ProgramFault {
+pub(crate) fn load_trouble(fault: LoadFault) -> ResumeFault {
     match fault {
-        LoadFault::OutOfMemory => ProgramFault::OutOfMemory,
-        LoadFault::Refused { .. } => ProgramFault::State(fault),
+        LoadFault::OutOfMemory => ResumeFault::OutOfMemory,
+        LoadFault::Refused { .. } => ResumeFault::State(fault),
     }
 }
 
@@ -46,17 +58,16 @@ pub(crate) fn load_trouble(fault: LoadFault) -> ProgramFault {
 ///
 /// # Errors
 ///
-/// [`ProgramFault::NoState`] if there are more octets than any state has, [`ProgramFault::State`] if they are
-/// none of this configuration, [`ProgramFault::OutOfMemory`].
+/// [`ResumeFault::TooLong`], [`ResumeFault::State`], [`ResumeFault::OutOfMemory`].
 pub fn loaded_of(
     alloc: Global,
     config: &GatewayConfig,
     octets: &[u8],
-) -> Result<Loaded, ProgramFault>
+) -> Result<Loaded, ResumeFault>
     ensures { IfOk result (WasLoaded octets.now config.now) }
 {
     if octets.len() > MOST_OCTETS {
-        return Err(ProgramFault::NoState);
+        return Err(ResumeFault::TooLong);
     }
     match load_gateway(alloc, config, state_in(octets)) {
         Ok(loaded) => Ok(loaded),

@@ -1,6 +1,7 @@
 //! How the log of a trunk is read from its folder, and begun (`begin_log`).
 
-use crate::log_folder::{RECORDS_ROOM, STATE_ROOM, in_folder, open_in};
+use crate::log_folder::{RECORDS_ROOM, STATE_ROOM, in_folder, no_log, open_in};
+use crate::state::resume_trouble;
 use gw_command::TrunkOptions;
 use gw_config::Config;
 use gw_log::{LogContents, LogFault, PairOctets, TrunkLog, log_behind};
@@ -8,6 +9,7 @@ use gw_report::ProgramFault;
 use gw_session::TrunkRecord;
 use gw_switch::Gateway;
 use log_files::{FileStore, Pair, read_area};
+use std::alloc::Global;
 use std::fs::{self, File};
 use std::io;
 use std::rt::Files;
@@ -24,12 +26,10 @@ fn area_in(
     folder: &str,
     name: &str,
 ) -> Result<Vec<u8>, ProgramFault> {
-    let Ok(path) = in_folder(rt.alloc(), folder, name) else {
-        return Err(ProgramFault::OutOfMemory);
-    };
+    let path = in_folder(rt.alloc(), folder, name)?;
     match read_area_at(rt, path.as_str()) {
         Ok(octets) => Ok(octets),
-        Err(error) => Err(ProgramFault::of(&error, ProgramFault::NoLog)),
+        Err(error) => Err(no_log(rt.alloc(), path.as_str(), &error)),
     }
 }
 
@@ -65,6 +65,14 @@ fn pair_at(
     ))
 }
 
+// The fault if the log in a folder takes no state.
+fn no_checkpoint(alloc: Global, folder: &str, fault: LogFault) -> ProgramFault {
+    match (fault, format!(in alloc; "{folder}: {fault}")) {
+        (LogFault::NoRoom | LogFault::Write, Ok(reason)) => ProgramFault::NoLog(reason),
+        (_, _) => ProgramFault::OutOfMemory,
+    }
+}
+
 /// Begins the log of a trunk, if it is to have one: it goes on behind what its folder has, and keeps this
 /// gateway, and from then on what is appended.
 ///
@@ -82,7 +90,10 @@ pub fn begin_log(
         return Ok(None);
     };
     let contents = log_contents(rt, folder)?;
-    let loaded = contents.newest()?;
+    let loaded = match contents.newest() {
+        Ok(loaded) => loaded,
+        Err(fault) => return Err(resume_trouble(rt.alloc(), folder, fault)),
+    };
     let first = pair_at(rt, folder, "state.0", "records.0")?;
     let second = pair_at(rt, folder, "state.1", "records.1")?;
     let Ok(room) = Box::new(rt.alloc(), TrunkRecord::new()) else {
@@ -91,7 +102,6 @@ pub fn begin_log(
     let mut log = log_behind(rt.alloc(), first, second, loaded, &config.gateway, room);
     match log.checkpoint(gateway) {
         Ok(()) => Ok(Some(log)),
-        Err(LogFault::OutOfMemory) => Err(ProgramFault::OutOfMemory),
-        Err(LogFault::NoRoom | LogFault::Write) => Err(ProgramFault::NoLog),
+        Err(fault) => Err(no_checkpoint(rt.alloc(), folder, fault)),
     }
 }

@@ -4,7 +4,7 @@ use crate::files::open_or_create;
 use crate::lock_process::{holder, note_process};
 use gw_command::TrunkOptions;
 use gw_log::fill_file;
-use gw_report::ProgramFault;
+use gw_report::{ProgramFault, reason_at};
 use std::alloc::{AllocError, Global};
 use std::fs::File;
 use std::io;
@@ -34,18 +34,24 @@ pub(crate) fn in_folder(alloc: Global, folder: &str, name: &str) -> Result<Strin
     Ok(path)
 }
 
+/// The fault if the system refuses what is at a path: a file of a log, or its folder.
+pub(crate) fn no_log(alloc: Global, path: &str, error: &io::Error) -> ProgramFault {
+    match reason_at(alloc, path, error) {
+        Ok(reason) => ProgramFault::NoLog(reason),
+        Err(fault) => fault,
+    }
+}
+
 /// Opens the file of this name in a folder, or creates it.
 pub(crate) fn open_in(
     rt: &(impl Files<File = File> + AllocGlobal),
     folder: &str,
     name: &str,
 ) -> Result<File, ProgramFault> {
-    let Ok(path) = in_folder(rt.alloc(), folder, name) else {
-        return Err(ProgramFault::OutOfMemory);
-    };
+    let path = in_folder(rt.alloc(), folder, name)?;
     match open_or_create(rt, path.as_str()) {
         Ok(file) => Ok(file),
-        Err(error) => Err(ProgramFault::of(&error, ProgramFault::NoLog)),
+        Err(error) => Err(no_log(rt.alloc(), path.as_str(), &error)),
     }
 }
 
@@ -59,11 +65,11 @@ fn make_room(
     let file = open_in(rt, folder, name)?;
     let len = match file.metadata() {
         Ok(found) => found.len(),
-        Err(error) => return Err(ProgramFault::of(&error, ProgramFault::NoLog)),
+        Err(error) => return Err(no_log(rt.alloc(), folder, &error)),
     };
     match fill_file(file, len, room) {
         Ok(()) => Ok(()),
-        Err(_) => Err(ProgramFault::LogRoom(LOG_ROOM)),
+        Err(_) => Err(ProgramFault::LogRoom(String::from_str(rt.alloc(), folder)?, LOG_ROOM)),
     }
 }
 
@@ -78,8 +84,11 @@ fn lock_of(
         Err(error) => {
             let error = io::Error::from(error);
             match error.kind() {
-                io::ErrorKind::WouldBlock => Err(ProgramFault::LogInUse(holder(&lock))),
-                _ => Err(ProgramFault::of(&error, ProgramFault::NoLog)),
+                io::ErrorKind::WouldBlock => Err(ProgramFault::LogInUse(
+                    String::from_str(rt.alloc(), folder)?,
+                    holder(&lock),
+                )),
+                _ => Err(no_log(rt.alloc(), folder, &error)),
             }
         }
     }

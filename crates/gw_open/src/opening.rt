@@ -5,7 +5,7 @@ use crate::state::keep_gateway;
 use gw_command::{PortOptions, Senders, SessionOptions, TrunkOptions};
 use gw_config::Config;
 use gw_repeat::{Repeating, packet_words};
-use gw_report::{ProgramFault, tell_result};
+use gw_report::{ProgramFault, reason_at, tell_result};
 use gw_session::{RunFault, Totals};
 use gw_switch::Gateway;
 use gw_tell::Teller;
@@ -125,7 +125,7 @@ pub fn open_teller(
     let law = config.gateway.law;
     match Teller::open(rt, path, law, gateway) {
         Ok(teller) => Ok(Some(teller)),
-        Err(error) => Err(ProgramFault::of(&error, ProgramFault::Tell)),
+        Err(error) => Err(ProgramFault::Tell(reason_at(rt.alloc(), path, &error)?)),
     }
 }
 

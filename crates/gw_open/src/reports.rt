@@ -1,7 +1,7 @@
 //! How the FIFO of `--reports` is opened, between `crc4 --check` and `crc4`.
 
 use crate::files::{is_regular, never_wait};
-use gw_report::ProgramFault;
+use gw_report::{ProgramFault, reason_at};
 use std::fs::{File, OpenOptions};
 use std::io;
 use std::rt::Files;
@@ -20,19 +20,23 @@ fn open(rt: &impl Files<File = File>, path: &str) -> io::Result<File> {
 ///
 /// [`ProgramFault::Reports`] if it can't be opened or is a regular file, or want of memory.
 pub fn open_reports(
-    rt: &impl Files<File = File>,
+    rt: &(impl Files<File = File> + AllocGlobal),
     path: Option<&str>,
 ) -> Result<Option<File>, ProgramFault> {
     let Some(path) = path else {
         return Ok(None);
     };
     let opened = match is_regular(rt, path) {
-        Ok(true) => return Err(ProgramFault::Reports),
+        Ok(true) => {
+            return Err(ProgramFault::Reports(format!(in rt.alloc();
+                "{path}: a regular file, and not a FIFO"
+            )?));
+        }
         Ok(false) => open(rt, path),
         Err(error) => Err(error),
     };
     match opened {
         Ok(file) => Ok(Some(file)),
-        Err(error) => Err(ProgramFault::of(&error, ProgramFault::Reports)),
+        Err(error) => Err(ProgramFault::Reports(reason_at(rt.alloc(), path, &error)?)),
     }
 }

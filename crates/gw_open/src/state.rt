@@ -4,8 +4,8 @@ use crate::files::{create_file, is_regular, read_file};
 use crate::log::log_contents;
 use gw_command::SessionOptions;
 use gw_config::Config;
-use gw_log::{Found, loaded_of, resumed_of};
-use gw_report::ProgramFault;
+use gw_log::{Found, ResumeFault, loaded_of, resumed_of};
+use gw_report::{ProgramFault, reason_at};
 use gw_state::state_file;
 use gw_switch::{Gateway, GatewayConfig};
 use std::alloc::{AllocError, Global};
@@ -23,6 +23,26 @@ fn tell_renewed(rt: &impl Eprint, old: &GatewayConfig, config: &GatewayConfig) {
     }
 }
 
+// The fault if no gateway goes on from the log or the state at a path.
+fn trouble_at(alloc: Global, path: &str, fault: ResumeFault) -> Result<ProgramFault, AllocError> {
+    Ok(match fault {
+        ResumeFault::OutOfMemory => ProgramFault::OutOfMemory,
+        ResumeFault::TooLong => {
+            ProgramFault::NoState(format!(in alloc; "{path}: longer than any state")?)
+        }
+        ResumeFault::Damaged => ProgramFault::BadLog(String::from_str(alloc, path)?),
+        ResumeFault::State(fault) => ProgramFault::State(String::from_str(alloc, path)?, fault),
+    })
+}
+
+/// The fault if no gateway goes on from the log or the state at a path.
+pub(crate) fn resume_trouble(alloc: Global, path: &str, fault: ResumeFault) -> ProgramFault {
+    match trouble_at(alloc, path, fault) {
+        Ok(fault) => fault,
+        Err(_) => ProgramFault::OutOfMemory,
+    }
+}
+
 // The gateway of the log in a folder; None if nothing was ever kept there.
 fn resumed_gateway(
     rt: &(impl Files<File = File> + Eprint + AllocGlobal),
@@ -30,12 +50,13 @@ fn resumed_gateway(
     folder: &str,
 ) -> Result<Option<Gateway>, ProgramFault> {
     let contents = log_contents(rt, folder)?;
-    match resumed_of(rt.alloc(), config, &contents)? {
-        Some(Found { gateway, old }) => {
+    match resumed_of(rt.alloc(), config, &contents) {
+        Ok(Some(Found { gateway, old })) => {
             tell_renewed(rt, &old, config);
             Ok(Some(gateway))
         }
-        None => Ok(None),
+        Ok(None) => Ok(None),
+        Err(fault) => Err(resume_trouble(rt.alloc(), folder, fault)),
     }
 }
 
@@ -49,12 +70,17 @@ fn first_gateway(
         return Gateway::open(rt.alloc(), config).map_err(|_| ProgramFault::OutOfMemory);
     };
     // (one more than any state has)
-    let loaded = match read_file(rt, path, 1_048_577) {
-        Ok(octets) => loaded_of(rt.alloc(), config, octets.as_slice())?,
-        Err(error) => return Err(ProgramFault::of(&error, ProgramFault::NoState)),
+    let octets = match read_file(rt, path, 1_048_577) {
+        Ok(octets) => octets,
+        Err(error) => return Err(ProgramFault::NoState(reason_at(rt.alloc(), path, &error)?)),
     };
-    tell_renewed(rt, &loaded.old, config);
-    Ok(loaded.gateway)
+    match loaded_of(rt.alloc(), config, octets.as_slice()) {
+        Ok(loaded) => {
+            tell_renewed(rt, &loaded.old, config);
+            Ok(loaded.gateway)
+        }
+        Err(fault) => Err(resume_trouble(rt.alloc(), path, fault)),
+    }
 }
 
 // The gateway that a log has if one is named that has one; otherwise as without a log.
@@ -130,13 +156,11 @@ pub(crate) fn keep_gateway(
     };
     // (nothing is there, or a regular file that may be replaced)
     if let Ok(false) = is_regular(rt, path) {
-        return Err(ProgramFault::NotSaved);
+        return Err(ProgramFault::NotSaved(format!(in rt.alloc(); "{path}: not a regular file")?));
     }
-    let Ok(new) = unfinished(rt.alloc(), path) else {
-        return Err(ProgramFault::OutOfMemory);
-    };
+    let new = unfinished(rt.alloc(), path)?;
     match replace(rt, octets.as_slice(), new.as_str(), path) {
         Ok(()) => Ok(()),
-        Err(error) => Err(ProgramFault::of(&error, ProgramFault::NotSaved)),
+        Err(error) => Err(ProgramFault::NotSaved(reason_at(rt.alloc(), path, &error)?)),
     }
 }

@@ -6,6 +6,7 @@ ghost use Rattle.gw_report.specs.Status.{program_fault_status};
 use gw_config::ConfigFault;
 use gw_records::RunFault;
 use gw_state::LoadFault;
+use std::alloc::{AllocError, Global};
 use std::io;
 use thiserror::Error;
 
@@ -19,7 +20,8 @@ pub const REFUSED: u8 = 2;
 
 const NO_MEMORY: u8 = 3;
 
-/// Why the program failed. It prints as the line on standard error.
+/// Why the program failed. It prints as the line on standard error. A text is what the fault is about, as a
+/// file, an address or an option, and why the system refused it (`reason_at`).
 #[derive(Debug, Drop, Error)]
 pub enum ProgramFault {
     /// A session ended with a fault.
@@ -29,14 +31,14 @@ pub enum ProgramFault {
     #[error("socket {0}")]
     Socket(u8),
     /// The socket of an emulated circuit can't be opened.
-    #[error("cannot open the socket of the circuit")]
-    FarEnd,
-    /// The octets of a packet are no whole frames.
-    #[error("error: --size is not a multiple of 32")]
-    PacketSize,
-    /// The streams of a trunk can't be waited for.
-    #[error("cannot wait for the trunk")]
-    Trunk,
+    #[error("cannot open the socket of the circuit: {0}")]
+    FarEnd(String),
+    /// So many octets of a packet are no whole frames.
+    #[error("error: --size {0} is not a multiple of 32")]
+    PacketSize(u16),
+    /// A stream of a trunk, or the descriptor of its end, can't be waited for.
+    #[error("cannot wait for {0}")]
+    Trunk(String),
     /// The command line is not text.
     #[error("error: the command line is not text")]
     NotText,
@@ -46,45 +48,63 @@ pub enum ProgramFault {
     /// The file of the configuration can't be read.
     #[error("cannot read the configuration")]
     File,
-    /// The files of the trunk's log can't be opened, read or written.
-    #[error("cannot open the log of the trunk")]
-    NoLog,
-    /// The process of this number has the trunk's log.
-    #[error("the log of the trunk is in use by process {0}")]
-    LogInUse(u32),
-    /// The files of the trunk's log want this many octets, and there are fewer.
-    #[error("the log of the trunk wants {0} octets")]
-    LogRoom(u64),
-    /// The files of the trunk's log have nothing that can be loaded, and are not new.
-    #[error("the log of the trunk has no state that can be loaded")]
-    BadLog,
-    /// A write of the trunk's log failed: the trunk ended behind what it had in hand.
-    #[error("cannot write the log of the trunk")]
-    LogLost,
+    /// A file of the trunk's log can't be opened, read or written.
+    #[error("cannot open the log of the trunk: {0}")]
+    NoLog(String),
+    /// The trunk's log in a folder is that of the process of this number.
+    #[error("the log of the trunk in {0} is in use by process {1}")]
+    LogInUse(String, u32),
+    /// The files of the trunk's log want this many octets, and its folder has fewer.
+    #[error("the log of the trunk in {0} wants {1} octets")]
+    LogRoom(String, u64),
+    /// The files of the trunk's log in a folder have nothing that can be loaded, and are not new.
+    #[error("the log of the trunk in {0} has no state that can be loaded")]
+    BadLog(String),
+    /// A write of the trunk's log in a folder failed: the trunk ended behind what it had in hand.
+    #[error("cannot write the log of the trunk in {0}")]
+    LogLost(String),
     /// The file of reports can't be opened.
-    #[error("cannot open the file of --reports")]
-    Reports,
+    #[error("cannot open the file of --reports: {0}")]
+    Reports(String),
     /// The file of a state can't be read.
-    #[error("cannot read the state")]
-    NoState,
-    /// The file has no state of this configuration.
-    #[error("{0}")]
-    State(LoadFault),
+    #[error("cannot read the state: {0}")]
+    NoState(String),
+    /// The file at a path has no state of this configuration.
+    #[error("{1} in {0}")]
+    State(String, LoadFault),
     /// The state can't be saved.
-    #[error("cannot save the state")]
-    NotSaved,
+    #[error("cannot save the state: {0}")]
+    NotSaved(String),
     /// The socket that clients connect to can't be opened.
-    #[error("cannot open the control socket")]
-    Control,
+    #[error("cannot open the control socket: {0}")]
+    Control(String),
     /// The socket of `--tell` can't be opened.
-    #[error("cannot open the socket of --tell")]
-    Tell,
+    #[error("cannot open the socket of --tell: {0}")]
+    Tell(String),
     /// The file has no valid configuration.
     #[error("{0}")]
     Config(ConfigFault),
     /// Memory was refused.
     #[error("out of memory")]
     OutOfMemory,
+}
+
+/// Why the system refused the file or the address of this name, behind that name.
+///
+/// # Errors
+///
+/// [`ProgramFault::OutOfMemory`] if it wants memory, or the text does.
+pub fn reason_at(alloc: Global, name: &str, error: &io::Error) -> Result<String, ProgramFault> {
+    match error.kind() {
+        io::ErrorKind::OutOfMemory => Err(ProgramFault::OutOfMemory),
+        _ => Ok(format!(in alloc; "{name}: {error}")?),
+    }
+}
+
+impl From<AllocError> for ProgramFault {
+    fn from(_error: AllocError) -> ProgramFault {
+        ProgramFault::OutOfMemory
+    }
 }
 
 impl ProgramFault {
@@ -105,27 +125,27 @@ impl ProgramFault {
         match self {
             ProgramFault::Session(RunFault::OutOfMemory)
             | ProgramFault::Config(ConfigFault::OutOfMemory)
-            | ProgramFault::State(LoadFault::OutOfMemory)
+            | ProgramFault::State(_, LoadFault::OutOfMemory)
             | ProgramFault::OutOfMemory => NO_MEMORY,
             ProgramFault::Session(_)
             | ProgramFault::Socket(_)
-            | ProgramFault::FarEnd
-            | ProgramFault::Trunk
-            | ProgramFault::LogRoom(_)
-            | ProgramFault::LogLost
-            | ProgramFault::NotSaved => FAULT,
+            | ProgramFault::FarEnd(_)
+            | ProgramFault::Trunk(_)
+            | ProgramFault::LogRoom(_, _)
+            | ProgramFault::LogLost(_)
+            | ProgramFault::NotSaved(_) => FAULT,
             ProgramFault::NotText
-            | ProgramFault::PacketSize
+            | ProgramFault::PacketSize(_)
             | ProgramFault::Nothing
             | ProgramFault::File
-            | ProgramFault::NoLog
-            | ProgramFault::LogInUse(_)
-            | ProgramFault::BadLog
-            | ProgramFault::Reports
-            | ProgramFault::NoState
-            | ProgramFault::State(_)
-            | ProgramFault::Control
-            | ProgramFault::Tell
+            | ProgramFault::NoLog(_)
+            | ProgramFault::LogInUse(_, _)
+            | ProgramFault::BadLog(_)
+            | ProgramFault::Reports(_)
+            | ProgramFault::NoState(_)
+            | ProgramFault::State(_, _)
+            | ProgramFault::Control(_)
+            | ProgramFault::Tell(_)
             | ProgramFault::Config(_) => REFUSED,
         }
     }

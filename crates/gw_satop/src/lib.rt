@@ -20,7 +20,7 @@ pub use counts::Counts;
 pub use line::{DatagramOutcome, Receiver};
 pub use pace::PlayClock;
 pub use packet::PacketFault;
-pub use peer::{UdpPeer, open_socket};
+pub use peer::{UdpPeer, address_of, open_socket};
 pub use ready::{WhenReady, open_input};
 pub use sender::{Sender, SenderSettings};
 pub use system::SystemClock;

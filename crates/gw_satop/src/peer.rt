@@ -76,28 +76,18 @@ impl<S: Socket> UdpPeer<S> {
     }
 }
 
-// The first address of a host and a port.
-fn address_of(net: &impl Net, text: &str) -> io::Result<SocketAddr> {
+/// The first address of a host and a port. The error is the system's, or says that the text is none, or that
+/// the host has no address.
+pub fn address_of(net: &impl Net, text: &str) -> io::Result<SocketAddr> {
     match text.to_socket_addrs(net)?.next() {
         Some(address) => Ok(address),
         None => Err(Error::from(ErrorKind::NotFound)),
     }
 }
 
-/// Opens a socket at the address of `local` that takes datagrams from the address of `from` alone, and
-/// returns it with that of `peer`; each text is a host and a port. The error is the system's, or says that
-/// one has no address.
-pub fn open_socket<S: Socket>(
-    net: &impl Net,
-    local: &str,
-    peer: &str,
-    from: &str,
-) -> io::Result<(S, SocketAddr)> {
-    let address = address_of(net, peer)?;
-    let sender = address_of(net, from)?;
-    let here = address_of(net, local)?;
+/// Opens a socket at an address, with room for the packets of a far end. The error is the system's.
+pub fn open_socket<S: Socket>(net: &impl Net, here: SocketAddr) -> io::Result<S> {
     let mut socket = S::bind(net, here)?;
     socket.make_room(ROOM);
-    socket.connect(sender)?;
-    Ok((socket, address))
+    Ok(socket)
 }

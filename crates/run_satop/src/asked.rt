@@ -33,7 +33,7 @@ fn window_for(jitter: u16, size: u16) -> usize
 pub(crate) fn circuit_asked(options: &SatopOptions<'_>) -> Result<CircuitAsked, ProgramFault> {
     let window = window_for(options.jitter, options.size);
     let Some(settings) = Settings::new(usize::from(options.size), window, options.fill) else {
-        return Err(ProgramFault::PacketSize);
+        return Err(ProgramFault::PacketSize(options.size));
     };
     let frames = (settings.size / FRAME) as u64;
     Ok(CircuitAsked {

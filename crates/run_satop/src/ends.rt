@@ -3,10 +3,11 @@
 ghost use Rattle.std.specs.Prelude.{◌≡◌, [], IfOk};
 
 use gw_command::SatopOptions;
-use gw_report::ProgramFault;
-use gw_satop::{SystemClock, WhenReady, open_input, open_socket};
+use gw_report::{ProgramFault, reason_at};
+use gw_satop::{SystemClock, WhenReady, address_of, open_input, open_socket};
 use gw_trunk::{FromDevice, ToDevice};
-use gw_udp::SystemSocket;
+use gw_udp::{Socket, SystemSocket};
+use std::io;
 use std::net::{Net, SocketAddr};
 use std::rt::{Clock, Stdin, Stdout};
 
@@ -15,15 +16,45 @@ const STDIN: i32 = 0;
 
 const STDOUT: i32 = 1;
 
+// What a fault of standard input or output is about.
+const TRUNK: &str = "the trunk";
+
+// The address of a host and a port.
+fn named_address(rt: &(impl Net + AllocGlobal), text: &str) -> Result<SocketAddr, ProgramFault> {
+    match address_of(rt, text) {
+        Ok(address) => Ok(address),
+        Err(error) => Err(ProgramFault::FarEnd(match error.kind() {
+            io::ErrorKind::InvalidInput => format!(in rt.alloc(); "{text} is no HOST:PORT")?,
+            _ => reason_at(rt.alloc(), text, &error)?,
+        })),
+    }
+}
+
+// Opens a socket at this address.
+fn open_near_end(
+    rt: &(impl Net + AllocGlobal),
+    local: &str,
+    here: SocketAddr,
+) -> Result<SystemSocket, ProgramFault> {
+    match open_socket(rt, here) {
+        Ok(socket) => Ok(socket),
+        Err(error) => Err(ProgramFault::FarEnd(reason_at(rt.alloc(), local, &error)?)),
+    }
+}
+
 /// Opens the socket that the options name, and returns it with the address of the far end.
 pub(crate) fn open_far_end(
-    rt: &impl Net,
+    rt: &(impl Net + AllocGlobal),
     options: &SatopOptions<'_>,
 ) -> Result<(SystemSocket, SocketAddr), ProgramFault> {
     let from = options.from.unwrap_or(options.peer);
-    match open_socket(rt, options.local, options.peer, from) {
-        Ok(opened) => Ok(opened),
-        Err(error) => Err(ProgramFault::of(&error, ProgramFault::FarEnd)),
+    let here = named_address(rt, options.local)?;
+    let peer = named_address(rt, options.peer)?;
+    let sender = named_address(rt, from)?;
+    let mut socket = open_near_end(rt, options.local, here)?;
+    match socket.connect(sender) {
+        Ok(()) => Ok((socket, peer)),
+        Err(error) => Err(ProgramFault::FarEnd(reason_at(rt.alloc(), from, &error)?)),
     }
 }
 
@@ -36,7 +67,7 @@ pub(crate) fn open_stdin(
 {
     match open_input(rt, input, STDIN) {
         Ok(incoming) => Ok(incoming),
-        Err(error) => Err(ProgramFault::of(&error, ProgramFault::Trunk)),
+        Err(error) => Err(ProgramFault::Trunk(reason_at(rt.alloc(), TRUNK, &error)?)),
     }
 }
 
@@ -49,7 +80,7 @@ pub(crate) fn open_stdout(
 {
     match ToDevice::open(rt, output, STDOUT) {
         Ok(outgoing) => Ok(outgoing),
-        Err(error) => Err(ProgramFault::of(&error, ProgramFault::Trunk)),
+        Err(error) => Err(ProgramFault::Trunk(reason_at(rt.alloc(), TRUNK, &error)?)),
     }
 }
 
@@ -60,6 +91,6 @@ pub(crate) fn open_clock<'r, R: Net + Clock + Eprint + AllocGlobal>(
 ) -> Result<SystemClock<'r, R>, ProgramFault> {
     match SystemClock::open(rt, STDIN, socket) {
         Ok(clock) => Ok(clock),
-        Err(error) => Err(ProgramFault::of(&error, ProgramFault::Trunk)),
+        Err(error) => Err(ProgramFault::Trunk(reason_at(rt.alloc(), TRUNK, &error)?)),
     }
 }

@@ -4,7 +4,7 @@ ghost use Rattle.std.specs.Prelude.{◌≡◌, [], IfOk};
 ghost use Rattle.run_trunk.specs.Opening.{IsFreshEnd, IsFreshTrunk};
 
 use gw_command::{ControlOptions, TrunkOptions};
-use gw_report::ProgramFault;
+use gw_report::{ProgramFault, reason_at};
 use gw_trunk::{FromDevice, ToDevice, WithClients, open_clients};
 use mio::net::UnixStream;
 use std::alloc::Global;
@@ -36,13 +36,16 @@ pub struct OpenTrunk {
     pub(crate) alloc: Global,
 }
 
+// What a fault of standard input or output is about.
+const TRUNK: &str = "the trunk";
+
 // Opens standard input without clients.
 fn open_alone(rt: &(impl Net + AllocGlobal), input: Stdin) -> Result<Incoming, ProgramFault>
     ensures { IfOk result IsFreshEnd }
 {
     match FromDevice::open(rt, input, STDIN) {
         Ok(incoming) => Ok(Incoming::Alone(incoming)),
-        Err(error) => Err(ProgramFault::of(&error, ProgramFault::Trunk)),
+        Err(error) => Err(ProgramFault::Trunk(reason_at(rt.alloc(), TRUNK, &error)?)),
     }
 }
 
@@ -71,11 +74,16 @@ fn open_with_clients(
         control.path,
     ) {
         Ok(both) => both,
-        Err(error) => return Err(ProgramFault::of(&error, ProgramFault::Control)),
+        Err(error) => {
+            let reason = reason_at(rt.alloc(), control.path, &error)?;
+            return Err(ProgramFault::Control(reason));
+        }
     };
     if let Some(descriptor) = control.end {
         if let Err(error) = incoming.end_by(i32::from(descriptor)) {
-            return Err(ProgramFault::of(&error, ProgramFault::Trunk));
+            let end = format!(in rt.alloc(); "--end {descriptor}")?;
+            let reason = reason_at(rt.alloc(), end.as_str(), &error)?;
+            return Err(ProgramFault::Trunk(reason));
         }
     }
     Ok(Incoming::Clients(incoming, answers))
@@ -104,7 +112,7 @@ fn open_outgoing(
 {
     match ToDevice::open(rt, output, STDOUT) {
         Ok(outgoing) => Ok(outgoing),
-        Err(error) => Err(ProgramFault::of(&error, ProgramFault::Trunk)),
+        Err(error) => Err(ProgramFault::Trunk(reason_at(rt.alloc(), TRUNK, &error)?)),
     }
 }
 
