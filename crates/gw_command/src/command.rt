@@ -205,7 +205,7 @@ fn sockets_in(alloc: Global, found: &ArgMatches<'_>) -> Result<Option<(u16, u16)
     };
     match descriptors_in(text) {
         Some(ends) => Ok(Some(ends)),
-        None => Err(Refusal::from(no_descriptors(alloc))),
+        None => Err(Refusal::from(no_descriptors(alloc, text))),
     }
 }
 

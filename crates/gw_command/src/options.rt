@@ -93,9 +93,6 @@ Example: e1gw satop 0.0.0.0:5000 192.0.2.2:5000 < trunk.in > trunk.out";
 /// G.711 in the law of `--law`.
 pub const G711: &str = "g711";
 
-// What clap says where `--sockets` names no descriptors.
-const NO_DESCRIPTORS: &str = "--sockets wants descriptors from 3 on, as 3-32";
-
 // What an option is given.
 #[derive(Clone, Copy)]
 enum Kind {
@@ -598,14 +595,15 @@ fn whole<'a>(alloc: Global) -> Result<Command<'a>, AllocError> {
         .subcommands(commands)
 }
 
-// The error of a `--sockets`.
-fn descriptors_wanted(alloc: Global) -> Result<Error, AllocError> {
-    whole(alloc)?.error(ErrorKind::ValueValidation, NO_DESCRIPTORS)
+// The error of a `--sockets` with this value.
+fn descriptors_wanted(alloc: Global, value: &str) -> Result<Error, AllocError> {
+    let words = format!(in alloc; "--sockets {value}: descriptors from 3 on are wanted, as 3-32")?;
+    whole(alloc)?.error(ErrorKind::ValueValidation, words.as_str())
 }
 
-/// Why `--sockets` is refused, in clap's form.
-pub(crate) fn no_descriptors(alloc: Global) -> Error {
-    match descriptors_wanted(alloc) {
+/// Why a `--sockets` with this value is refused, in clap's form.
+pub(crate) fn no_descriptors(alloc: Global, value: &str) -> Error {
+    match descriptors_wanted(alloc, value) {
         Ok(error) => error,
         Err(error) => Error::from(error),
     }
