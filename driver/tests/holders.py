@@ -18,7 +18,7 @@ from e1gw import holder_state
 from e1gw.holder_state import HolderState, TrunkPlaces, state_in
 
 LONG = {f'holder.{name}': limits.LONG for name in (
-    'starting.START', 'starting.RELOADED', 'starting.OLD', 'starting.LEFT', 'ending.GRACE', 'job.SECONDS',
+    'lifecycle.START', 'lifecycle.RELOADED', 'lifecycle.OLD', 'lifecycle.LEFT', 'lifecycle.GRACE', 'job.SECONDS',
     'job.PATIENCE', 'store.HEARD', 'store.GRACE')}
 
 

@@ -110,7 +110,7 @@ class IdleReloadTests(unittest.TestCase):
     def test_one_trunk(self) -> None:
         """Another codec for all circuits: one in a call has it once that has ended, also if the watcher dies meanwhile,
         and no call ends."""
-        world = World(config_of(range(1, 3)), within={'holder.starting.RELOADED': LONG})
+        world = World(config_of(range(1, 3)), within={'holder.lifecycle.RELOADED': LONG})
         self.addCleanup(world.__exit__)
 
         def rows() -> list[tuple[str, str]]:
@@ -134,7 +134,7 @@ class IdleReloadTests(unittest.TestCase):
 
     def test_a_codec_that_is_saved(self) -> None:
         """In a call, which goes on: the file has it, and so has the circuit behind that call."""
-        world = World(config_of(range(1, 3)), within={'holder.starting.RELOADED': LONG})
+        world = World(config_of(range(1, 3)), within={'holder.lifecycle.RELOADED': LONG})
         self.addCleanup(world.__exit__)
         aligned(world)
         call(world, 1)

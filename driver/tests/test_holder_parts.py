@@ -20,11 +20,10 @@ from . import support
 from .support import FolderCase
 from .test_card import FakeChannel
 from e1gw import holder_state, lock
-from e1gw.holder import ending, log, starting
-from e1gw.holder.card import Card
+from e1gw.holder import lifecycle, log
 from e1gw.holder.decisions import Deaths, Decision, EndFault, NextAct
 from e1gw.holder.holder import Holder
-from e1gw.holder.line import HeldLine, has_ended
+from e1gw.holder.line import Card, HeldLine, has_ended
 from e1gw.holder.loop import Loop
 from e1gw.holder.options import HELP, FLAGS, TEXTS, LineWants, OptionsRefused, options_of
 from e1gw.holder.program import end_words, fault_in, counted_octets
@@ -217,7 +216,7 @@ class HeldLogTests(FolderCase):
             support.until(lambda: log.has_log(process.pid, self.log))
             self.assertFalse(log.has_log(process.pid, f'{self.log}x'))
             process.communicate()
-        self.assertIn('not seen from here', starting.name_of(-1))
+        self.assertIn('not seen from here', lifecycle.name_of(-1))
 
 
 class HeldSocketsTests(unittest.TestCase):
@@ -460,13 +459,13 @@ class HeldFolderTests(FolderCase):
         options = mock.Mock(folder=self.path('disk/trunk-0'))
         holder = mock.Mock(spec=['folder', 'options'], options=options, folder=options.folder)
         with mock.patch.object(holder_state, 'MEMORY', self.path('memory')), \
-                mock.patch.object(starting, 'log_line') as said:
-            starting.make_folder(holder)
+                mock.patch.object(lifecycle, 'log_line') as said:
+            lifecycle.make_folder(holder)
             self.assertEqual(holder.folder, options.folder)
             with mock.patch('os.makedirs', side_effect=OSError(5, 'x')), self.assertRaises(OSError):
-                starting.make_folder(holder)
+                lifecycle.make_folder(holder)
             with mock.patch('os.access', lambda path, how: path.startswith(self.path('memory'))):
-                starting.make_folder(holder)
+                lifecycle.make_folder(holder)
             memory = holder_state.folder_in_memory(options.folder)
         self.assertEqual((holder.folder, len(said.mock_calls)), (memory, 1))
         self.assertTrue(os.path.isdir(f'{memory}/log'))
@@ -485,11 +484,11 @@ class HeldFolderTests(FolderCase):
         holder = mock.Mock(spec=['folder', 'options', 'log'], options=options, folder=options.folder)
         holder.log.put_back = mock.Mock(side_effect=[OSError(28, 'x'), True, OSError(28, 'x')])
         with mock.patch.object(holder_state, 'MEMORY', self.path('memory')), \
-                mock.patch.object(starting, 'log_line') as said:
+                mock.patch.object(lifecycle, 'log_line') as said:
             memory = holder_state.folder_in_memory(options.folder)
-            starting.put_back_log(holder)
+            lifecycle.put_back_log(holder)
             with self.assertRaises(OSError):
-                starting.put_back_log(holder)
+                lifecycle.put_back_log(holder)
         self.assertEqual([each.args[0] for each in holder.log.put_back.mock_calls],
                          [f'{options.folder}/log', f'{memory}/log', f'{memory}/log'])
         self.assertEqual((holder.folder, len(said.mock_calls)), (memory, 2))
@@ -508,9 +507,9 @@ class TurnTests(unittest.TestCase):
         holder.line.files = {}
         holder.line.look.side_effect = lambda now: holder.line.files.update(line=1) or True
         ended = mock.Mock(side_effect=lambda held, *_: setattr(held, 'program', None))
-        with mock.patch.multiple('e1gw.holder.holder', on_program_exit=ended, start=mock.DEFAULT) as its:
+        with mock.patch.multiple('e1gw.holder.holder', on_program_exit=ended, start_program=mock.DEFAULT) as its:
             Holder.turn(holder, 5.0)
-        self.assertEqual((len(ended.mock_calls), len(its['start'].mock_calls)), (1, 1))
+        self.assertEqual((len(ended.mock_calls), len(its['start_program'].mock_calls)), (1, 1))
 
 
 class HolderAnswerTests(unittest.TestCase):
@@ -518,7 +517,7 @@ class HolderAnswerTests(unittest.TestCase):
         """At once: of a line that is opened again who wants another program; of a trunk that is released whoever
         waits. systemd is told the end of a reload."""
         def reopens(holder: mock.Mock) -> None:
-            ending.do(holder, Decision(NextAct.REOPEN, Deaths()), 'the trunk has ended', 5.0)
+            lifecycle.carry_out(holder, Decision(NextAct.REOPEN, Deaths()), 'the trunk has ended', 5.0)
         for does, waits in (reopens, ['take']), (Holder.release, list[str]()):
             holder = mock.Mock(spec=Holder, status=None, is_active=False, folder='/none')
             for name in 'line', 'sockets', 'log', 'store':
@@ -538,7 +537,7 @@ class RemovedFolderTests(FolderCase):
         os.makedirs(folder := self.path('trunk/log'))
         found = list[bool]()
         with mock.patch('shutil.rmtree', lambda *_, **__: found.append(os.path.exists(folder))):
-            ending.remove_whole(self.path('trunk'))
+            lifecycle.remove_whole(self.path('trunk'))
         self.assertEqual(found, [False])
-        ending.remove_whole(self.path('trunk.ended'))
+        lifecycle.remove_whole(self.path('trunk.ended'))
         self.assertEqual(os.listdir(self.folder), [])

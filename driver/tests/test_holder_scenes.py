@@ -210,7 +210,7 @@ class HolderDeathTests(HolderCase):
 
     def test_an_orphan(self) -> None:
         """A program that stands still as its holder is killed is killed by the next one."""
-        self.within = {'holder.starting.LEFT': 0.05}
+        self.within = {'holder.lifecycle.LEFT': 0.05}
         self.begins()
         before = self.program
         os.kill(before, signal.SIGSTOP)
@@ -290,7 +290,7 @@ class HolderAskedTests(HolderCase):
 
     def test_a_version_that_does_not_come_up(self) -> None:
         """The one before comes back."""
-        self.within = {'holder.starting.RELOADED': 1.0}
+        self.within = {'holder.lifecycle.RELOADED': 1.0}
         self.options += ['--program', self.scripted()]
         self.begins()
         self.scripted('test "$1" = trunk && exec sleep 900')

@@ -11,7 +11,7 @@ from unittest import mock
 
 from .support import FolderCase
 from e1gw import trial
-from e1gw.holder import holder as held, main, starting
+from e1gw.holder import holder as held, lifecycle, main
 from e1gw.log_folder import LogPair
 from e1gw.watcher import http_pages
 from e1gw.watcher.reader import LogReader
@@ -53,7 +53,7 @@ class SpeechTests(unittest.TestCase):
         """It is not played where no program was there for more than a second."""
         for silence, drops in (0.9, 0), (1.1, 1):
             sockets = mock.Mock(lacking={})
-            starting.bind(mock.Mock(silent=50.0, sockets=sockets), 50.0 + silence)
+            lifecycle.bind_sockets(mock.Mock(silent=50.0, sockets=sockets), 50.0 + silence)
             self.assertEqual((sockets.drop_old.call_count, sockets.bind.call_count), (drops, 1))
 
     def test_a_machine_that_has_no_trunk(self) -> None:

@@ -5,9 +5,9 @@ If a holder dies its program ends with it, behind what it has in hand; the next 
 needs is kept by systemd: the line first, the sockets, the program, what was tried with it, and the log's files. So
 nothing is ever adopted, and the folder may vanish.
 
-A turn (`holder.py`) looks at what is there and does what is due. What follows: a start, `starting.py`; the end of a
-program, `ending.py` by `decisions.py`; a reload, `reloading.py`; a line that cannot be opened, `line.py`; a role of
-two machines, `roles.py`.
+A turn (`holder.py`) looks at what is there and does what is due. What follows: a program that starts or has ended,
+`lifecycle.py` by `decisions.py`; a reload, `reloading.py`; a line that cannot be opened, `line.py`; a role of two
+machines, `roles.py`.
 
 FOLDER is WITHIN/NAME-UID. Others know of a trunk by
 

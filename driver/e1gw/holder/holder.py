@@ -10,8 +10,8 @@ from e1gw_common.writers import put_file
 from .. import VERSION
 from ..holder_state import ACTIVE, INTERFACE, STANDBY, HolderState, start_of
 from .decisions import Deaths, EndReason, Renewals
-from .ending import finish, on_program_exit, is_late
 from .journal import Severity, has_failed, log_line
+from .lifecycle import finish, is_late, on_program_exit, on_program_up, start_program
 from .line import HeldLine
 from .log import FILES, HeldLog
 from .loop import Loop
@@ -21,7 +21,6 @@ from .reloading import Reloads
 from .requests import Door, HolderRequest
 from .roles import CHANGES, change_role, give_log
 from .sockets import HeldSockets
-from .starting import start, up
 from .store import Store
 from .version import Versions
 from .watcher_child import WatcherChild
@@ -100,7 +99,7 @@ class Holder:
         elif is_late(program, now):
             program.kill()
         elif not program.is_up and program.looks_up(f'{self.folder}/program'):
-            up(self, now)
+            on_program_up(self, now)
 
     def _go_on(self, now: float) -> None:
         """Goes on without a program."""
@@ -125,7 +124,7 @@ class Holder:
         if not self.line.files and self.line.look(now):
             self._is_opened()
         if self.line.files and now >= self.due and self.status is None:
-            start(self, now)
+            start_program(self, now)
 
     def _is_opened(self) -> None:
         """It has come to be known whether the line can be opened."""

@@ -13,10 +13,10 @@ from e1gw_common.fault_words import options_words, words_of_fault
 from e1gw_common.writers import hold_descriptors
 from ..lock import InUse, hold, let_go
 from .decisions import Beginning, beginning_of, is_active
-from .ending import LOST, finish
 from .holder import Holder
 from .job import Job
 from .journal import NAME, Severity, log_line
+from .lifecycle import LOST, finish
 from .line import HeldLine
 from .log import is_there, silence_of
 from .loop import Loop

@@ -9,11 +9,10 @@ from typing import TYPE_CHECKING, Any, Mapping
 
 from e1gw_common.fault_words import words_of_fault
 from .decisions import EndReason
-from .ending import finish
 from .job import Job
 from .journal import Severity, log_line
+from .lifecycle import finish, put_version
 from .requests import HolderRequest
-from .starting import put_version
 from .version import Version, tried_in, version_of
 
 if TYPE_CHECKING:

@@ -8,8 +8,8 @@ from e1gw_common.fault_words import words_of_fault
 from e1gw_common.writers import put_file
 from ..holder_state import ACTIVE, STANDBY
 from .decisions import EndReason
-from .ending import ANEW
 from .journal import Severity, log_line
+from .lifecycle import ANEW
 from .log import is_there, remove, rename_over, silence_of
 from .requests import HolderRequest
 
