@@ -104,6 +104,11 @@ class HolderCase(KeeperCase):
         os.kill(self.keeper.pid, number)
         self.keeper.wait(SECONDS)
 
+    def replaces(self) -> None:
+        """Another holder is in place of this one."""
+        os.kill(self.keeper.pid, signal.SIGUSR2)
+        self.awaits('the holder was replaced: program')
+
     def dies(self, number: int = signal.SIGKILL) -> None:
         """The program is sent a signal when it has answered all, and another one goes on."""
         os.kill(self.program, number)

@@ -119,7 +119,7 @@ class HolderDeathTests(HolderCase):
         for is_replaced in False, True:
             before = self.another_watcher(before)
             if is_replaced:
-                self.assertEqual(self.asks('replace'), 'replace: done')
+                self.replaces()
             os.kill(before, signal.SIGKILL)
             self.awaits('e1gw-watch ended by signal 9')
         before = self.another_watcher(before)
@@ -321,11 +321,9 @@ class HolderAskedTests(HolderCase):
         self.begins()
         before = self.program
         for _ in range(2):
-            self.assertEqual(self.asks('replace'), 'replace: done')
+            self.replaces()
             self.assertEqual(self.state().program, before)
             self.step(20)
-        os.kill(self.keeper.pid, signal.SIGUSR2)
-        self.awaits('the holder was replaced: program')
         self.dies()
         self.kill_holder()
         self.starts_holder()

@@ -260,9 +260,12 @@ class WatcherUnheardTests(WatcherCase):
         """Of the program, a reload, and an update: of the program, and another holder in place of this one."""
         for number in (signal.SIGKILL, signal.SIGTERM) * 5:
             self.dies(number)
-        for words in 'reload force', 'reload', 'replace':
+        for words in 'reload force', 'reload', '':
             self.scripted()
-            self.assertEqual(self.asks(words).splitlines()[-1], f'{words.split()[0]}: done')
+            if words:
+                self.assertEqual(self.asks(words).splitlines()[-1], 'reload: done')
+            else:
+                os.kill(self.keeper.pid, signal.SIGUSR2)
             self.goes_on_all()
         self.as_uncut()
 

@@ -198,8 +198,6 @@ class Holder:
         match request.text:
             case 'reload' | 'reload force' | 'reload when-idle':
                 self.reloads.begin(request)
-            case 'replace':
-                self.reloads.replace(request)
             case 'renew' if self.program and self.program.is_up:
                 if why := self.renew(now):
                     return request.refused(why)
@@ -211,8 +209,6 @@ class Holder:
             case 'quit':
                 request.done()
                 self.end('quit')
-            case 'version':
-                request.answer(f'version: done: {VERSION}')
             case _:
                 request.answer('unknown')
 

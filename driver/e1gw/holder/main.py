@@ -22,7 +22,6 @@ from .log import is_there, silence_of
 from .loop import Loop
 from .options import HELP, Options, OptionsRefused, options_of
 from .program import Child, HeldProgram, counted_octets
-from .requests import HolderRequest
 from .roles import give_log
 from .satop_line import SatopLine
 from .sockets import NAME as SOCKETS
@@ -119,8 +118,6 @@ def begin(holder: Holder) -> None:
         give_log(holder)
     close_rest(holder)
     holder.listen()                         # (before it is known: who knows it may ask)
-    if 'client' in store.files:             # .. who asked for a replacement, too
-        HolderRequest.from_stored(store.files['client'], 'replace').done()
     if not holder.is_active:
         holder.waits('it does not have the trunk')
     holder.store_descriptors()
@@ -206,5 +203,5 @@ def close_rest(holder: Holder) -> None:
     if program:
         its |= {program.leash, program.said}
     for name, file in holder.store.files.items():
-        if file not in its and not name.startswith(SOCKETS) and name != 'client':
+        if file not in its and not name.startswith(SOCKETS):
             os.close(file)

@@ -40,7 +40,7 @@ class Reloads:
         elif number == signal.SIGHUP:
             self.begin(HolderRequest(None, 'reload'))
         elif number == signal.SIGUSR2:
-            self.replace(HolderRequest(None, 'replace'))
+            self.replace()
 
     # ---- a version ----
 
@@ -91,7 +91,7 @@ class Reloads:
             return
         request, self._job = self._request, None
         if request.word == 'replace':
-            return self._become(request, found)
+            return self._become_next(found)
         if 'tried' in found:
             version, request.told = version_of(self._program, tried_in(found['tried'])), found.get('changes', '')
             if found.get('runs') and request.has_client and not request.text.endswith(' force'):
@@ -155,14 +155,15 @@ class Reloads:
 
     # ---- a holder ----
 
-    def replace(self, request: HolderRequest) -> None:
+    def replace(self) -> None:
         """Another holder in place of this one, if it can begin. The program goes on meanwhile."""
-        if why := self._why_not_replaced():
-            return self._keep_on(request, why)
         try:
-            self._job, self._request = Job({'what': 'begin'}), request
+            if not (why := self._why_not_replaced()):
+                self._job, self._request = Job({'what': 'begin'}), HolderRequest(None, 'replace')
         except OSError as fault:
-            self._keep_on(request, words_of_fault(fault))
+            why = words_of_fault(fault)
+        if why:
+            log_line(Severity.ERROR, f'replace: refused: {why}')
 
     def _why_not_replaced(self) -> str:
         program = self._holder.program
@@ -170,20 +171,15 @@ class Reloads:
             return 'no program carries the trunk, or another one is to follow'
         return ''
 
-    def _keep_on(self, request: HolderRequest, why: str) -> None:
-        log_line(Severity.ERROR, f'replace: refused: {why}')
-        request.refused(why)
-
-    def _become(self, request: HolderRequest, found: Mapping[str, Any]) -> None:
+    def _become_next(self, found: Mapping[str, Any]) -> None:
         holder, program = self._holder, self._holder.program
         why = str(found.get('refused') or found.get('later') or '') or self._why_not_replaced()
         if why or not program:
-            return self._keep_on(request, why)
+            return log_line(Severity.ERROR, f'replace: refused: {why}')
         holder.versions.stays()             # (its trial ends here)
         holder.store_descriptors()
-        client = request.detach()
         files = {**holder.descriptors_to_store(), **holder.line.files, 'leash': program.leash, 'said': program.said,
-                 'lock': holder.lock} | ({'client': client} if client >= 0 else {})
+                 'lock': holder.lock}
         holder.store.become_next(files, {'child': program.pid, 'since': holder.since, 'line': holder.line.note(),
                                          'watcher': holder.watcher.pid if holder.watcher else 0})
 

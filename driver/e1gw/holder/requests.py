@@ -22,11 +22,6 @@ class HolderRequest:
     def has_client(self) -> bool:
         return self._line is not None
 
-    @classmethod
-    def from_stored(cls, file: int, text: str) -> HolderRequest:
-        """One that was made of the process which has become this one."""
-        return cls(socket.socket(fileno=file), text)
-
     def done(self) -> None:
         """It was done; with what was `told` of it in a line before."""
         self.answer(f'{self.word}: {self.told}\n' * bool(self.told) + f'{self.word}: done')
@@ -44,11 +39,6 @@ class HolderRequest:
                 self._line.send(f'{words}\n'.encode())
             self._line.close()
         self._line = None
-
-    def detach(self) -> int:
-        """Its descriptor, or -1: another process is to answer it."""
-        line, self._line = self._line, None
-        return line.detach() if line else -1
 
 
 class Door:
