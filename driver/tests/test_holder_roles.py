@@ -107,18 +107,11 @@ class ChangedRoleTests(RoleCase):
         for text in 'take 77', 'take 78', 'take':
             self.says(text)
         self.assertEqual((self.holder.line.number, self.found(), self.answers), (77, {'log': 'fed'}, []))
-        self.assertEqual(support.text_of(self.path('role')), 'active')
+        self.holder.tell.assert_called()        # (the next holder has that role)
         self.holder.answer_waiting('take')
         self.up()
         self.says('take')
         self.assertEqual(self.answers, ['take: done'] * 4)
-
-    def test_a_folder_that_is_full(self) -> None:
-        """The role is changed all the same."""
-        self.log('fed', 'fed')
-        with mock.patch.object(roles, 'put_file', side_effect=OSError(28, 'No space left on device')):
-            self.says('take')
-        self.assertEqual((self.holder.is_active, self.found()), (True, {'log': 'fed'}))
 
     def test_released(self) -> None:
         """Not before the program has ended, however often it is asked; then its log is what is known."""
@@ -133,7 +126,6 @@ class ChangedRoleTests(RoleCase):
         self.holder.release()
         self.says('release')
         self.assertEqual((self.answers, self.found()), (['release: done'] * 3, {'fed': 'mine'}))
-        self.assertEqual(support.text_of(self.path('role')), 'standby')
 
     def test_taken_back_meanwhile(self) -> None:
         """While its program ends: it goes on with its own log, and who asked for the reverse is told."""

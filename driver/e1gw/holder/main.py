@@ -95,9 +95,9 @@ def make_own(folder: str) -> None:
 def begin(holder: Holder) -> None:
     """Goes on where the holder before this one has left, or from what was saved, or anew."""
     store, options, log = holder.store, holder.options, f'{holder.folder}/log'
-    has_log = is_there(log) or bool(holder.log.files)
+    has_log, before = is_there(log) or bool(holder.log.files), plain_in(f'{holder.folder}/holder')
     how = beginning_of('child' in store.was, has_log, options.is_saved and os.path.exists(options.state))
-    holder.is_active = is_active(options.is_standby, word_in(f'{holder.folder}/role'), bool(holder.line.files))
+    holder.is_active = is_active(options.is_standby, before.get('role', ''), bool(holder.line.files))
     holder.why, holder.was_up = str(how.value), how in (Beginning.REPLACED, Beginning.KILLED)
     if version := version_left(holder, how):
         holder.versions.follows(version)
@@ -111,7 +111,7 @@ def begin(holder: Holder) -> None:
             holder.store_descriptors()
             store.let_go()
         if holder.line.files:
-            holder.line.since = plain_in(f'{holder.folder}/holder').get('opened', holder.line.since)
+            holder.line.since = before.get('opened', holder.line.since)
     elif how is Beginning.SAVED:
         load(holder)
     if not holder.is_active:
@@ -131,15 +131,6 @@ def plain_in(path: str) -> dict[str, Any]:
             return dict(json.load(file))
     except (OSError, ValueError, TypeError):
         return {}
-
-
-def word_in(path: str) -> str:
-    """The word that a file has; nothing if there is none."""
-    try:
-        with open(path, encoding='ascii') as file:
-            return file.read(64).strip()
-    except (OSError, ValueError):
-        return ''
 
 
 def version_left(holder: Holder, how: Beginning) -> Version | None:

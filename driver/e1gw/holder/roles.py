@@ -5,8 +5,6 @@ import re
 from typing import TYPE_CHECKING
 
 from e1gw_common.fault_words import words_of_fault
-from e1gw_common.writers import put_file
-from ..holder_state import ACTIVE, STANDBY
 from .decisions import EndReason
 from .journal import Severity, log_line
 from .lifecycle import ANEW
@@ -30,7 +28,6 @@ def change_role(holder: Holder, request: HolderRequest, now: float) -> None:
             take_log(holder, now)
             holder.line.number = int(request.text[5:]) & 0xffff if request.text[5:] else None
         holder.is_active, holder.due = is_active, now
-        put_role(holder)
         holder.answer_waiting('release' if is_active else 'take', REVERSE)
     if is_active and program and program.is_up and not program.asked:
         return request.done()
@@ -40,14 +37,6 @@ def change_role(holder: Holder, request: HolderRequest, now: float) -> None:
     elif not is_active:
         holder.request_end(EndReason.RELEASE, now)
     holder.tell()
-
-
-def put_role(holder: Holder) -> None:
-    """The next holder has it, too."""
-    try:
-        put_file(f'{holder.folder}/role', (ACTIVE if holder.is_active else STANDBY).encode(), 0o640)
-    except OSError as fault:
-        log_line(Severity.ERROR, f'{words_of_fault(fault)}: a holder that is begun again may have another role')
 
 
 def take_log(holder: Holder, now: float) -> None:
