@@ -3,7 +3,6 @@ from __future__ import annotations
 
 import json
 import os
-import signal
 import stat
 import sys
 import time
@@ -29,7 +28,6 @@ from .store import Store
 from .version import Version, tried_in, version_of
 from .watcher_child import WatcherChild
 
-AGAIN = 0.25                # seconds before what cannot be had yet is tried again
 FAILED, REST = 1, 0.5       # the status of what may fail again; seconds before systemd begins the next one, at once
 
 
@@ -46,7 +44,15 @@ def main(words: list[str] | None = None) -> NoReturn:
         log_line(Severity.ERROR, f'{fault}; see {NAME} --help{options_words()}')
         os._exit(2)
     loop, store = Loop(), Store()
-    lock = locked(options, loop, store)
+    loop.catch()
+    try:
+        lock = lock_trunk(options.folder, store)
+    except InUse as fault:
+        log_line(Severity.ERROR, f'process {fault} holds this trunk')
+        os._exit(2)
+    except OSError as fault:
+        log_line(Severity.ERROR, words_of_fault(fault))
+        end(FAILED, store)
     line = SatopLine if options.line.satop else HeldLine
     holder = Holder(options, store, line(options.line, store.files, loop), loop)
     holder.lock = lock
@@ -54,34 +60,23 @@ def main(words: list[str] | None = None) -> NoReturn:
     holder.watcher = watcher_of(options, store, loop)
     status = holder.run()
     let_go(holder.lock, f'{options.folder}.lock')
+    end(status, store)
+
+
+def end(status: int, store: Store) -> NoReturn:
+    """The end of this process."""
     if status == FAILED and store.has_manager:
         time.sleep(REST)
     os._exit(status)
 
 
-def locked(options: Options, loop: Loop, store: Store) -> int:
-    """The lock of the trunk, whose folder nobody else can write to. What cannot be had is waited for, if a trunk is to
-    be waited for; an end that is asked for meanwhile comes at once."""
-    loop.signalled = lambda number: os._exit(0) if number in (signal.SIGTERM, signal.SIGINT) else None
-    loop.catch()
-    said, lock = '', store.files.get('lock', -1)
-    while True:
-        try:
-            os.makedirs(os.path.dirname(options.folder), exist_ok=True)
-            lock = hold(f'{options.folder}.lock') if lock < 0 else lock
-            make_own(options.folder)
-            return lock
-        except InUse as fault:
-            log_line(Severity.ERROR, f'process {fault} holds this trunk')
-            os._exit(2)
-        except OSError as fault:
-            if (why := words_of_fault(fault)) != said:
-                log_line(Severity.ERROR, why)
-            said = why
-            if not options.line.reopens:
-                os._exit(1)
-            store.tell('WATCHDOG=1')
-            loop.wait(AGAIN)
+def lock_trunk(folder: str, store: Store) -> int:
+    """The lock of the trunk, whose folder nobody else can write to. InUse says who has it; OSError if it cannot be
+    had."""
+    os.makedirs(os.path.dirname(folder), exist_ok=True)
+    lock = store.files['lock'] if 'lock' in store.files else hold(f'{folder}.lock')
+    make_own(folder)
+    return lock
 
 
 def make_own(folder: str) -> None:
