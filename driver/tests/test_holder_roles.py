@@ -128,7 +128,8 @@ class ChangedRoleTests(RoleCase):
         self.assertEqual((self.answers, self.found()), (['release: done'] * 3, {'fed': 'mine'}))
 
     def test_taken_back_meanwhile(self) -> None:
-        """While its program ends: it goes on with its own log, and who asked for the reverse is told."""
+        """While its program ends: another one goes on with its own log, on the same line, and who asked for the reverse
+        is told."""
         self.holder.is_active, program = True, self.up()
         self.log('log', 'mine')
         self.log('fed', 'other')
@@ -136,8 +137,8 @@ class ChangedRoleTests(RoleCase):
         program.asked = 5.0
         self.says('take 9')
         self.assertEqual(self.answers, [f'release: refused: {REVERSE}'])
+        self.holder.request_end.assert_called_with(EndReason.TAKEN_BACK, 5.0)
         self.holder.program = None
-        self.holder.release()
         self.assertEqual((self.found()['log'], self.holder.is_active, self.holder.line.number), ('mine', True, None))
         self.holder.answer_waiting('take')
         self.assertEqual(self.answers[1:], ['take: done'])

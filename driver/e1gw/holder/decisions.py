@@ -22,6 +22,7 @@ class EndReason(Enum):
     RELOAD = 'reload'
     RENEW = 'a socket, a port or the log is to be had again'
     RELEASE = 'the trunk is released'
+    TAKEN_BACK = 'the trunk is taken back'
     END = 'the end is asked for'
 
 

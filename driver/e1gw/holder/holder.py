@@ -180,9 +180,8 @@ class Holder:
         return ''
 
     def request_end(self, reason: EndReason, now: float) -> None:
-        """The program of now is to end for this, unless for more."""
-        if self.reason is not EndReason.RELEASE or reason is EndReason.END:
-            self.reason = reason
+        """The program of now is to end for this."""
+        self.reason = reason
         if self.program:
             self.program.ask(now)
 
@@ -213,15 +212,14 @@ class Holder:
                 request.answer('unknown')
 
     def release(self) -> None:
-        """The other machine carries the trunk, unless it was taken back meanwhile."""
+        """The other machine carries the trunk."""
         self.line.close()
         self.sockets.close_others(())
-        if not self.is_active:
-            give_log(self)
-            self.store_descriptors()
-            self.waits('it does not have the trunk')
-            for word in 'reload', 'renew', 'take':
-                self.answer_waiting(word, 'the trunk was released')
+        give_log(self)
+        self.store_descriptors()
+        self.waits('it does not have the trunk')
+        for word in 'reload', 'renew', 'take':
+            self.answer_waiting(word, 'the trunk was released')
         self.answer_waiting('release')
 
     def answer_waiting(self, word: str, refused: str = '') -> None:

@@ -204,7 +204,7 @@ def gather_end(holder: Holder, program: HeldProgram, status: int, now: float) ->
     lines = program.lines()
     is_well, fault = status == 0 and not program.hangs, fault_in(lines)
     was_up = program.is_up or is_well       # (one may have ended before anybody saw that it was)
-    reason = EndReason.END if holder.ending else holder.reason
+    reason = EndReason.END if holder.ending else holder.reason if holder.is_active else EndReason.RELEASE
     words = ''
     if reason is EndReason.NONE and was_up and (is_well or fault is EndFault.TRUNK):
         words = holder.line.why_ended(counted_octets(lines) or 0)

@@ -22,9 +22,10 @@ REVERSE = 'the reverse was asked for meanwhile'
 def change_role(holder: Holder, request: HolderRequest, now: float) -> None:
     """The holder is to have the trunk from now on, or not. What is asked for twice is done once."""
     is_active, program = request.word == 'take', holder.program
-    is_other = is_active is not holder.is_active
-    if is_other:
-        if is_active and not program:       # (else what it has is there, and it is taken back)
+    if is_active is not holder.is_active:
+        if program:                         # (what it has is there)
+            holder.request_end(EndReason.TAKEN_BACK if is_active else EndReason.RELEASE, now)
+        elif is_active:
             take_log(holder, now)
             holder.line.number = int(request.text[5:]) & 0xffff if request.text[5:] else None
         holder.is_active, holder.due = is_active, now
@@ -34,8 +35,6 @@ def change_role(holder: Holder, request: HolderRequest, now: float) -> None:
     holder.requests.append(request)
     if not (is_active or program):
         holder.release()
-    elif not is_active:
-        holder.request_end(EndReason.RELEASE, now)
     holder.tell()
 
 
