@@ -20,7 +20,7 @@ from .line import HeldLine
 from .log import is_there, silence_of
 from .loop import Loop
 from .options import HELP, Options, OptionsRefused, options_of
-from .program import Child, HeldProgram, counted_octets
+from .program import HeldProgram, counted_octets
 from .roles import give_log
 from .satop_line import SatopLine
 from .sockets import NAME as SOCKETS
@@ -157,7 +157,7 @@ def watcher_of(options: Options, store: Store, loop: Loop) -> WatcherChild | Non
 def replaced(holder: Holder) -> None:
     """This process was another holder, whose child and descriptors it has."""
     was, files = holder.store.was, holder.store.files
-    holder.program = HeldProgram(Child(was['child'], holder.loop), files['leash'], files['said'])
+    holder.program = HeldProgram(was['child'], holder.loop, files['leash'], files['said'])
     holder.since = was['since']
     holder.line.take_up(was['line'])
     log_line(Severity.NOTICE, f'{holder.why}: program {was["child"]} goes on')

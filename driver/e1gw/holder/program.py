@@ -55,7 +55,7 @@ class Child:
     def kill(self) -> None:
         os.kill(self.pid, signal.SIGKILL)       # (its number is no other's before its status was taken)
 
-    def ended(self) -> int | None:
+    def exit_status(self) -> int | None:
         """Its status once it has ended, negative for a signal. To be called no more then."""
         pid, status = os.waitpid(self.pid, os.WNOHANG)
         if not pid:
@@ -65,12 +65,12 @@ class Child:
         return os.waitstatus_to_exitcode(status)
 
 
-class HeldProgram:
+class HeldProgram(Child):
     """One that runs. `deadline` is until when it is to carry the trunk."""
 
-    def __init__(self, child: Child, leash: int, said: int, deadline: float = inf) -> None:
-        self._child, self.leash, self.said, self.deadline = child, leash, said, deadline
-        self.pid, self.is_up = child.pid, deadline == inf
+    def __init__(self, pid: int, loop: Loop, leash: int, said: int, deadline: float = inf) -> None:
+        super().__init__(pid, loop)
+        self.leash, self.said, self.deadline, self.is_up = leash, said, deadline, deadline == inf
         self.asked: float | None = None         # when it was asked to end
         self.hangs = False
         self._lines: tuple[socket.socket, socket.socket] | None = None
@@ -86,7 +86,7 @@ class HeldProgram:
             opened.append(config := in_memory(wants.config.encode()))
             program = executable(wants.program)
             opened += [program] * (program != wants.program)
-            return cls(Child(spawned(wants, program, config, end), loop), leash, wants.said, deadline)
+            return cls(spawned(wants, program, config, end), loop, leash, wants.said, deadline)
         except OSError:
             os.close(leash)
             raise
@@ -123,11 +123,7 @@ class HeldProgram:
     def kill(self) -> None:
         """It hangs."""
         self.hangs = True
-        self._child.kill()
-
-    def exit_status(self) -> int | None:
-        """Its status once it has ended, negative for a signal."""
-        return self._child.ended()
+        super().kill()
 
     def is_stopped(self) -> bool:
         """Whether a signal has stopped it."""

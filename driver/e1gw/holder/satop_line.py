@@ -151,7 +151,7 @@ class SatopLine(HeldLine):
         self.step(now)
 
     def _reap(self) -> int | None:
-        status = self._child.ended() if self._child else None
+        status = self._child.exit_status() if self._child else None
         if status is not None:
             self._child = None
         return status

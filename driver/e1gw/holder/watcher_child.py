@@ -44,7 +44,7 @@ class WatcherChild:
             self._restarts = Openings(due=inf)
 
     def _on_exit(self) -> None:
-        if not self._child or (code := self._child.ended()) is None:
+        if not self._child or (code := self._child.exit_status()) is None:
             return
         self._child = None
         self._restarts = Openings(due=inf) if code in REFUSED else self._restarts.with_end(time.monotonic())
