@@ -26,7 +26,7 @@ class Job:
         self.asked = asked
         self._found = os.memfd_create('e1gw-found')
         wants = in_memory(json.dumps({**asked, 'seconds': SECONDS}).encode())
-        self._until, self._answer = time.monotonic() + PATIENCE, None   # type: float, Mapping[str, Any] | None
+        self._until = time.monotonic() + PATIENCE
         os.lseek(wants, 0, os.SEEK_SET)
         try:
             self._pid = os.posix_spawn(
@@ -41,15 +41,15 @@ class Job:
             os.close(wants)
 
     def look(self) -> Mapping[str, Any] | None:
-        """Its answer, once it has one; of one that dies or takes too long why it is refused."""
-        if self._answer is None and (os.waitpid(self._pid, os.WNOHANG)[0] or time.monotonic() >= self._until):
-            octets = os.pread(self._found, os.fstat(self._found).st_size, 0)
-            self.end()
-            try:
-                self._answer = dict(json.loads(octets))
-            except ValueError:
-                self._answer = {'later': 'it is not tried to its end'}
-        return self._answer
+        """Its answer, once, if it has one; of one that dies or takes too long why it is refused."""
+        if not os.waitpid(self._pid, os.WNOHANG)[0] and time.monotonic() < self._until:
+            return None
+        octets = os.pread(self._found, os.fstat(self._found).st_size, 0)
+        self.end()
+        try:
+            return dict(json.loads(octets))
+        except ValueError:
+            return {'later': 'it is not tried to its end'}
 
     def wait(self) -> Mapping[str, Any]:
         """Waits for its answer."""

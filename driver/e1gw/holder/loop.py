@@ -5,7 +5,7 @@ import os
 import select
 import signal
 from contextlib import suppress
-from typing import Callable, Iterable
+from typing import Callable
 
 CAUGHT = signal.SIGHUP, signal.SIGUSR1, signal.SIGUSR2, signal.SIGTERM, signal.SIGINT
 
@@ -45,9 +45,9 @@ class Loop:
             for number in filter(None, os.read(self._wakes, 256)):
                 self.signalled(number)
 
-    def catch(self, numbers: Iterable[int] = CAUGHT) -> None:
+    def catch(self) -> None:
         """Signals come here from now on, those that waited first."""
         signal.set_wakeup_fd(self._wake, warn_on_full_buffer=False)
-        for number in numbers:
+        for number in CAUGHT:
             signal.signal(number, lambda *_: None)
-        signal.pthread_sigmask(signal.SIG_UNBLOCK, numbers)
+        signal.pthread_sigmask(signal.SIG_UNBLOCK, CAUGHT)
