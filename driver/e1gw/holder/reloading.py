@@ -95,22 +95,23 @@ class Reloads:
         if 'tried' in found:
             version, request.told = version_of(self._program, tried_in(found['tried'])), found.get('changes', '')
             if found.get('runs') and request.has_client and not request.text.endswith(' force'):
-                return self._go_on(request, version)
+                request.told = request.told or NOTHING
+                return self._keep_on(request, version)
             return self._switch_to(request, version, found.get('told', ''), now)
         os.close(self._program)
         if request.word == 'begin':
             return self._has_no_version(found)
         self._refuse(request, str(found.get('refused') or found.get('later')))
 
-    def _go_on(self, request: HolderRequest, version: Version) -> None:
-        """The program of now goes on: nothing is new of this version but what waits."""
+    def _keep_on(self, request: HolderRequest, version: Version) -> None:
+        """No program follows for this version: what is new of it waits, or there is none now."""
         holder = self._holder
-        holder.versions.differs_little(version)
+        holder.versions.replace_now(version)
         put_version(holder, version)
         holder.store_descriptors()
         holder.tell()
-        holder.store.notify('READY=1')
-        request.told = request.told or NOTHING
+        if request.word == 'reload':
+            holder.store.notify('READY=1')
         request.done()
 
     def _switch_to(self, request: HolderRequest, version: Version, told: str, now: float) -> None:
@@ -122,20 +123,14 @@ class Reloads:
             log_line(Severity.WARNING, f'e1gw {version.its.name}: it is for trials, and takes more of a processor')
         if request.told:
             log_line(Severity.NOTICE, f'reload: {request.told}')
+        if not holder.is_active or not (holder.program or holder.line.files and request.word == 'reload'):
+            holder.versions.stays()         # (there is nothing to go back to)
+            return self._keep_on(request, version)
         holder.versions.follows(version)
-        if holder.program and holder.is_active:
-            holder.requests.append(request)
+        holder.requests.append(request)
+        if holder.program:
             holder.request_end(EndReason.RELOAD, now)
-        elif holder.line.files and holder.is_active and request.word == 'reload':
-            holder.requests.append(request)
-            holder.due = now
-        else:                               # (there is nothing to go back to)
-            holder.versions.stays()
-            put_version(holder, version)
-            holder.store_descriptors()
-            if request.word == 'reload':
-                holder.store.notify('READY=1')
-            request.done()
+        holder.due = now
 
     def _has_no_version(self, found: Mapping[str, Any]) -> None:
         """What there is will not do for a first program. What may come back is waited for, if somebody wants that."""

@@ -76,7 +76,7 @@ def version_of(program: int, found: Tried) -> Version:
 
 
 class Versions:
-    """The version of now, and for a minute the one before it."""
+    """The version of now, and for a minute, in which it is on trial, the one before it."""
 
     def __init__(self, now: Version | None) -> None:
         self.now, self.before = now, None       # type: Version | None, Version | None
@@ -89,8 +89,8 @@ class Versions:
         self.before, self.now = self.now, version
         self.trial = Trial() if self.before else None
 
-    def differs_little(self, version: Version) -> None:
-        """The version of now is this one, which differs by what waits alone."""
+    def replace_now(self, version: Version) -> None:
+        """The version of now is this one, without a trial of its own."""
         if self.now:
             self.now.close()
         self.now = version
@@ -113,7 +113,7 @@ class Versions:
 
     def stored_version(self) -> Version | None:
         """The one with which the next holder goes on: one that was never up is for none."""
-        return self.before if self.before and self.trial and self.trial.until == inf else self.now
+        return self.before if self.trial and self.trial.until == inf else self.now
 
     def addresses(self) -> set[Address]:
         """Of the circuits of either."""
