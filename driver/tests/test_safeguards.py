@@ -85,7 +85,7 @@ class HostTests(unittest.IsolatedAsyncioTestCase):
 
     def test_signs_of_life(self) -> None:
         """systemd kills who gives none."""
-        its = mock.Mock(watcher=None, program=None, versions=mock.Mock(before=None))
+        its = mock.Mock(watcher=None, program=None, versions=mock.Mock(trial=None))
         held.Holder._tick(its, 1.0)
         its.store.tell.assert_called_once_with('WATCHDOG=1')
 

@@ -141,7 +141,7 @@ class Holder:
         self.store.tell('WATCHDOG=1')
         if self.watcher:
             self.watcher.step(now)
-        if self.versions.before and self.versions.trial and now >= self.versions.trial.until:
+        if self.versions.trial and now >= self.versions.trial.until:
             self.versions.stays()
             self.sockets.close_others(self.versions.addresses())
             self.store_descriptors()
@@ -218,15 +218,14 @@ class Holder:
         give_log(self)
         self.store_descriptors()
         self.waits('it does not have the trunk')
-        for word in 'reload', 'renew', 'take':
-            self.answer_waiting(word, 'the trunk was released')
+        self.answer_waiting('reload', 'renew', 'take', refused='the trunk was released')
         self.answer_waiting('release')
 
-    def answer_waiting(self, word: str, refused: str = '') -> None:
+    def answer_waiting(self, *words: str, refused: str = '') -> None:
         """Answers those who have waited for this."""
-        its = [each for each in self.requests if each.word == word]
-        self.requests = [each for each in self.requests if each.word != word]
-        if its and refused and word == 'reload':
+        its = [each for each in self.requests if each.word in words]
+        self.requests = [each for each in self.requests if each.word not in words]
+        if refused and any(each.word == 'reload' for each in its):
             self.store.notify('READY=1')           # (systemd waits for the end of it, too)
         for each in its:
             if refused:

@@ -16,7 +16,7 @@ from ..holder_state import folder_in_memory
 from .decisions import FIRST_PAUSE, Decision, EndFault, EndOfProgram, EndReason, NextAct, after_end
 from .job import Job
 from .journal import Severity, log_line
-from .log import has_log, is_there, put_aside, user_of
+from .log import has_log, is_there, rename_over, user_of
 from .program import CRASHES, HeldProgram, ProgramWants, counted_octets, end_words, fault_in
 from .version import Version
 
@@ -168,8 +168,7 @@ def on_program_up(holder: Holder, now: float) -> None:
     log_line(Severity.WARNING if holder.lost else Severity.NOTICE, words)
     holder.lost = ''
     holder.store.notify('READY=1', f'STATUS=program {program.pid}')
-    for word in 'reload', 'renew', 'take':
-        holder.answer_waiting(word)
+    holder.answer_waiting('reload', 'renew', 'take')
 
 
 # ---- its end ----
@@ -210,9 +209,8 @@ def gather_end(holder: Holder, program: HeldProgram, status: int, now: float) ->
         words = holder.line.why_ended(counted_octets(lines) or 0)
         if fault is EndFault.TRUNK:
             words = words or f'the trunk has ended: the program {end_words(status, lines)}'
-    trial = holder.versions.trial if holder.versions.before else None
     return EndOfProgram(reason, fault, was_up, is_well, is_crash(status), bool(words), not holder.was_up,
-                        holder.options.line.reopens, trial, holder.deaths, now), words
+                        holder.options.line.reopens, holder.versions.trial, holder.deaths, now), words
 
 
 def is_crash(status: int) -> bool:
@@ -230,15 +228,14 @@ def carry_out(holder: Holder, decided: Decision, words: str, now: float) -> None
             return holder.release()
         case NextAct.REOPEN:
             holder.why = words
-            for word in 'reload', 'renew':      # (the next program may be a long time to come)
-                holder.answer_waiting(word, words)
+            holder.answer_waiting('reload', 'renew', refused=words)     # (the next program may be a long time to come)
             holder.line.end(words, now)
         case NextAct.GO_BACK:
             go_back(holder)
         case NextAct.NEW_LOG:
             log_line(Severity.ERROR, f'{holder.why}: the log is put aside, and a new one begins')
             holder.log.close()
-            put_aside(f'{holder.folder}/log')
+            rename_over(log := f'{holder.folder}/log', f'{log}.damaged')
             holder.lost = ANEW
         case NextAct.MOVE_LOG:
             move_folder(holder, holder.why)
@@ -253,7 +250,7 @@ def go_back(holder: Holder) -> None:
     """The version before comes back."""
     log_line(Severity.ERROR, f'reload: refused, the version before comes back: {holder.why}')
     holder.versions.roll_back()
-    holder.answer_waiting('reload', f'the version before comes back: {holder.why}')
+    holder.answer_waiting('reload', refused=f'the version before comes back: {holder.why}')
     holder.why = 'the version before comes back'
 
 
@@ -262,8 +259,7 @@ def finish(holder: Holder, why: str, status: int) -> None:
     log_line(Severity.ERROR if status else Severity.NOTICE, f'ends: {why}')
     holder.store.notify('STOPPING=1')
     holder.reloads.close()
-    for word in {each.word for each in holder.requests}:
-        holder.answer_waiting(word, why)
+    holder.answer_waiting(*(each.word for each in holder.requests), refused=why)
     is_kept = bool(holder.options.is_saved and is_there(f'{holder.folder}/log')) and not save(holder)
     holder.status = 1 if is_kept else status
     holder.line.close()

@@ -89,12 +89,6 @@ def rename_over(folder: str, other: str) -> None:
         os.rename(folder, other)
 
 
-def put_aside(folder: str) -> None:
-    """A log of which nothing can be had gives way to a new one."""
-    remove(f'{folder}.damaged')
-    os.rename(folder, f'{folder}.damaged')
-
-
 def is_there(folder: str) -> bool:
     """Whether a folder has a log."""
     return os.path.exists(f'{folder}/{FILES[0]}')

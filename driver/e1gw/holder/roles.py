@@ -29,7 +29,7 @@ def change_role(holder: Holder, request: HolderRequest, now: float) -> None:
             take_log(holder, now)
             holder.line.number = int(request.text[5:]) & 0xffff if request.text[5:] else None
         holder.is_active, holder.due = is_active, now
-        holder.answer_waiting('release' if is_active else 'take', REVERSE)
+        holder.answer_waiting('release' if is_active else 'take', refused=REVERSE)
     if is_active and program and program.is_up and not program.asked:
         return request.done()
     holder.requests.append(request)
