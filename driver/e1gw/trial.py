@@ -15,7 +15,7 @@ import tomllib
 from contextlib import closing
 from dataclasses import dataclass
 from importlib import import_module
-from typing import Any, Callable, Iterable, Mapping, Sequence
+from typing import Any, Callable, Collection, Iterable, Mapping, Sequence, TypeVar
 
 from e1gw_common.config_faults import config_words
 from e1gw_common.fault_words import words_of_fault
@@ -33,6 +33,7 @@ PORTS = 'local_port', 'peer_port'
 NEW = re.compile(r'circuit (\d+) begins as new')
 
 Asked = Mapping[str, Any]   # what a holder asks
+T = TypeVar('T')
 
 
 class TrialRefused(Exception):
@@ -216,11 +217,19 @@ def try_version(asked: Asked) -> dict[str, Any]:
     if wait := {n for n in hurt if asked['when_idle'] or has_codec(before, version, n, now.codecs)}:
         if version.head != before.head:
             raise TrialRefused('law and host are of all circuits, and wait for no call')
-        version = version.keeping(before, wait)
+        version = keep_circuits(version, before, wait)
         found = check(asked, program, version.config(), log)
     runs = is_same_file(asked) and version._replace(wait=before.wait) == before
     return {'tried': version._asdict(), 'told': describe_effects(asked, version, found.new, calls),
             'changes': describe_changes(before, version), 'runs': runs}
+
+
+def keep_circuits(version: Tried, before: Tried, circuits: Collection[int]) -> Tried:
+    """The same version, but that these circuits wait."""
+    def join(new: Mapping[int, T], old: Mapping[int, T]) -> dict[int, T]:
+        return {n: its for n in sorted({*new, *old}) if (its := (old if n in circuits else new).get(n))}
+    return version._replace(circuits=join(version.circuits, before.circuits), ports=join(version.ports, before.ports),
+                            wait=tuple(sorted(circuits)))
 
 
 def circuits_now(asked: Asked, log: LogPair | None) -> Checked:

@@ -6,14 +6,11 @@ import json
 import os
 from functools import cached_property
 from math import inf
-from typing import Any, Collection, Mapping, NamedTuple, TypeVar
+from typing import Any, Collection, Mapping, NamedTuple
 
 from ..memory import in_memory
 from .decisions import Trial
 from .sockets import Address
-
-T = TypeVar('T')
-
 
 NOT_PROVED = 'not proved'   # at the end of the version of a program that was built without proof
 
@@ -37,13 +34,6 @@ class Tried(NamedTuple):
     def config(self, lacking: Collection[int] = ()) -> str:
         """The text of the configuration, in which these circuits have no ports."""
         return self.head + ''.join(without if n in lacking else its for n, (its, without) in self.circuits.items())
-
-    def keeping(self, before: Tried, circuits: Collection[int]) -> Tried:
-        """The same, but that these circuits wait."""
-        def joined(new: Mapping[int, T], old: Mapping[int, T]) -> dict[int, T]:
-            return {n: its for n in sorted({*new, *old}) if (its := (old if n in circuits else new).get(n))}
-        return self._replace(circuits=joined(self.circuits, before.circuits), ports=joined(self.ports, before.ports),
-                       wait=tuple(sorted(circuits)))
 
     def text(self) -> str:
         return json.dumps(self._asdict())
