@@ -58,7 +58,7 @@ class Reloads:
         if holder.ending:
             return request.refused('the end is asked for')
         if self.is_busy or not holder.versions.now:
-            return request.busy('one is tried already')
+            return request.refused('one is tried already', 'busy')
         holder.store.notify('RELOADING=1', f'MONOTONIC_USEC={time.monotonic_ns() // 1000}')
         try:
             self._try(request, holder.versions.now)

@@ -26,12 +26,8 @@ class HolderRequest:
         """It was done; with what was `told` of it in a line before."""
         self.answer(f'{self.word}: {self.told}\n' * bool(self.told) + f'{self.word}: done')
 
-    def refused(self, why: str) -> None:
-        self.answer(f'{self.word}: refused: {" ".join(why.splitlines())}')
-
-    def busy(self, why: str) -> None:
-        """Nothing is changed, since another one goes on."""
-        self.answer(f'{self.word}: busy: {why}')
+    def refused(self, why: str, word: str = 'refused') -> None:
+        self.answer(f'{self.word}: {word}: {" ".join(why.splitlines())}')
 
     def answer(self, words: str) -> None:
         if self._line:
