@@ -107,7 +107,7 @@ class ChangedRoleTests(RoleCase):
         for text in 'take 77', 'take 78', 'take':
             self.says(text)
         self.assertEqual((self.holder.line.number, self.found(), self.answers), (77, {'log': 'fed'}, []))
-        self.holder.tell.assert_called()        # (the next holder has that role)
+        self.holder.publish.assert_called()        # (the next holder has that role)
         self.holder.answer_waiting('take')
         self.up()
         self.says('take')

@@ -129,8 +129,7 @@ class Holder:
     def _is_opened(self) -> None:
         """It has come to be known whether the line can be opened."""
         if self.line.files:
-            self.store_descriptors()
-            self.tell()
+            self.publish()
         elif self.options.line.reopens or self.was_up:
             self.waits('the trunk is not open yet')
         else:
@@ -144,8 +143,7 @@ class Holder:
         if self.versions.trial and now >= self.versions.trial.until:
             self.versions.stays()
             self.sockets.close_others(self.versions.addresses())
-            self.store_descriptors()
-            self.tell()
+            self.publish()
         self.listen()
         if self.program and self.program.is_up and not self.program.asked:
             self._see_to(self.program, now)
@@ -216,7 +214,6 @@ class Holder:
         self.line.close()
         self.sockets.close_others(())
         give_log(self)
-        self.store_descriptors()
         self.waits('it does not have the trunk')
         self.answer_waiting('reload', 'renew', 'take', refused='the trunk was released')
         self.answer_waiting('release')
@@ -241,12 +238,10 @@ class Holder:
         its = {'program': version.program, 'tried': version.file} if version else {}
         return {**self.line.stored_files(), **its, **self.log.files, **self.sockets.files}
 
-    def store_descriptors(self) -> None:
-        """Has systemd keep that; nothing of a trunk that has ended, or is released."""
+    def publish(self) -> None:
+        """Has systemd keep that, and puts down what others know of the trunk. (Of one that has ended, or is released,
+        nothing is kept.)"""
         self.store.keep(self.descriptors_to_store() if self.is_active and self.status is None else {})
-
-    def tell(self) -> None:
-        """Puts down what others know of it."""
         program, line, version = self.program, self.line, self.versions.now
         pid, its = program.pid if program else 0, version.its if version else None
         state = HolderState(
@@ -265,4 +260,4 @@ class Holder:
         if words != self._waits:
             self.store.notify('READY=1', f'STATUS={words}')
         self._waits = words
-        self.tell()
+        self.publish()

@@ -163,8 +163,7 @@ def on_program_up(holder: Holder, now: float) -> None:
     with suppress(OSError):
         if holder.options.state:
             os.unlink(holder.options.state)     # (it is no longer the state of the trunk)
-    holder.store_descriptors()
-    holder.tell()
+    holder.publish()
     log_line(Severity.WARNING if holder.lost else Severity.NOTICE, words)
     holder.lost = ''
     holder.store.notify('READY=1', f'STATUS=program {program.pid}')
@@ -242,8 +241,7 @@ def carry_out(holder: Holder, decided: Decision, words: str, now: float) -> None
         case _ if decided.pause:
             log_line(Severity.ERROR, f'{holder.why}: the next one begins in {decided.pause:g} s')
     if decided.act is not NextAct.START or decided.pause:     # (else the next one does it: calls wait)
-        holder.store_descriptors()
-        holder.tell()
+        holder.publish()
 
 
 def go_back(holder: Holder) -> None:

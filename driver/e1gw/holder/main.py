@@ -103,7 +103,7 @@ def begin(holder: Holder) -> None:
         holder.lost = LOST if has_died(holder.folder) else ''
         if 'DSCP' in os.environ:            # (it marks what this cgroup has opened, and that of before is gone)
             holder.sockets.close_others(())
-            holder.store_descriptors()
+            store.keep(holder.descriptors_to_store())
             store.let_go()
         if holder.line.files:
             holder.line.since = before.get('opened', holder.line.since)
@@ -115,8 +115,7 @@ def begin(holder: Holder) -> None:
     holder.listen()                         # (before it is known: who knows it may ask)
     if not holder.is_active:
         holder.waits('it does not have the trunk')
-    holder.store_descriptors()
-    holder.tell()
+    holder.publish()
 
 
 def plain_in(path: str) -> dict[str, Any]:

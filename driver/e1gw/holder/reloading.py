@@ -108,8 +108,7 @@ class Reloads:
         holder = self._holder
         holder.versions.replace_now(version)
         put_version(holder, version)
-        holder.store_descriptors()
-        holder.tell()
+        holder.publish()
         if request.word == 'reload':
             holder.store.notify('READY=1')
         request.done()
@@ -172,7 +171,7 @@ class Reloads:
         if why or not program:
             return log_line(Severity.ERROR, f'replace: refused: {why}')
         holder.versions.stays()             # (its trial ends here)
-        holder.store_descriptors()
+        holder.publish()
         files = {**holder.descriptors_to_store(), **holder.line.files, 'leash': program.leash, 'said': program.said,
                  'lock': holder.lock}
         holder.store.become_next(files, {'child': program.pid, 'since': holder.since, 'line': holder.line.note(),

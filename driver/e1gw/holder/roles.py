@@ -35,7 +35,7 @@ def change_role(holder: Holder, request: HolderRequest, now: float) -> None:
     holder.requests.append(request)
     if not (is_active or program):
         holder.release()
-    holder.tell()
+    holder.publish()
 
 
 def take_log(holder: Holder, now: float) -> None:
