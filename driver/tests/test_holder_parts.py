@@ -25,7 +25,7 @@ from e1gw.holder.decisions import Deaths, Decision, EndFault, NextAct
 from e1gw.holder.holder import Holder
 from e1gw.holder.line import Card, HeldLine, has_ended
 from e1gw.holder.loop import Loop
-from e1gw.holder.options import HELP, FLAGS, TEXTS, LineWants, OptionsRefused, options_of
+from e1gw.holder.options import HELP, FLAGS, TEXTS, LineWants, options_of
 from e1gw.holder.program import end_words, fault_in, counted_octets
 from e1gw.holder.sockets import HeldSockets, address_in, name_of
 from e1gw.holder.store import Store
@@ -429,7 +429,7 @@ class HolderOptionsTests(unittest.TestCase):
                 (['--unix', 'a', '--align', '--clear'], '--align'), (['--unix', 'a', '--blocks', '0,2'], '--blocks'),
                 (['--unix', 'a', '--folder', 'x' * 100], '107 octets'),
                 (['--unix', 'a', '--crc4', '--clear'], '--crc4')):
-            with self.assertRaisesRegex(OptionsRefused, why):
+            with self.assertRaisesRegex(ValueError, why):
                 options_of(self.options(*words), {})
 
 

@@ -19,7 +19,7 @@ from .lifecycle import LOST, finish
 from .line import HeldLine
 from .log import is_there, silence_of
 from .loop import Loop
-from .options import HELP, Options, OptionsRefused, options_of
+from .options import HELP, Options, options_of
 from .program import HeldProgram, counted_octets
 from .roles import give_log
 from .satop_line import SatopLine
@@ -40,7 +40,7 @@ def main(words: list[str] | None = None) -> NoReturn:
         os._exit(0)
     try:
         options = options_of(words, os.environ)
-    except OptionsRefused as fault:
+    except ValueError as fault:
         log_line(Severity.ERROR, f'{fault}; see {NAME} --help{options_words()}')
         os._exit(2)
     loop, store = Loop(), Store()

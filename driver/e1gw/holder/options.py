@@ -56,10 +56,6 @@ SATOP = {'size': range(32, 1281, 32), 'jitter': range(501), 'rtp': range(128)}  
 CLOCKS = 'packets', 'own'
 
 
-class OptionsRefused(Exception):
-    """What is wrong with a command line."""
-
-
 class LineWants(NamedTuple):
     """What the line is. `open` opens it, but for SAToP, which has two ends and the options of `e1gw satop`."""
 
@@ -94,29 +90,23 @@ class Options(NamedTuple):
 
 
 def options_of(words: list[str], around: Mapping[str, str]) -> Options:
-    """Those of a command line. OptionsRefused says what is wrong with it."""
-    try:
-        rest = [*words, '--'].index('--')
-        return _options_of(read(words[:rest]), words[rest + 1:], around)
-    except ValueError as fault:
-        raise OptionsRefused(str(fault)) from None
-
-
-def _options_of(asked: Mapping[str, str], watch: list[str], around: Mapping[str, str]) -> Options:
+    """Those of a command line. ValueError says what is wrong with it."""
+    rest = [*words, '--'].index('--')
+    asked, watch = read(words[:rest]), words[rest + 1:]
     if not asked['config']:
-        raise OptionsRefused('--config is wanted')
+        raise ValueError('--config is wanted')
     config = os.path.abspath(asked['config'])
     name = asked['name'] or os.path.splitext(os.path.basename(config))[0]
     if '/' in name or not name.isprintable() or name in ('.', '..'):
-        raise OptionsRefused(f'--name {name!r} is no name of a file')
+        raise ValueError(f'--name {name!r} is no name of a file')
     within = asked['folder'] or around.get('RUNTIME_DIRECTORY', '').partition(':')[0] or MEMORY
     folder = os.path.join(os.path.abspath(within), f'{name}-{os.getuid()}')
     for path in (f'{each}/{LONGEST}' for each in (folder, folder_in_memory(folder))):
         if len(os.fsencode(path)) > MOST_PATH:
-            raise OptionsRefused(f'{path}: a path of a socket has {MOST_PATH} octets at most')
+            raise ValueError(f'{path}: a path of a socket has {MOST_PATH} octets at most')
     senders = asked['senders'] or 'host'
     if senders not in SENDERS:
-        raise OptionsRefused(f'--senders {senders} is none of {", ".join(SENDERS)}')
+        raise ValueError(f'--senders {senders} is none of {", ".join(SENDERS)}')
     wait = number(asked, 'seizure-wait', 200, 8000, 200)
     program = program_of(asked['program'], around)
     return Options(config, program, name, folder, line_of(asked, program, folder), words_of(asked, wait),
@@ -131,13 +121,13 @@ def read(words: list[str]) -> dict[str, str]:
         name, equals, value = word.removeprefix('--').partition('=')
         if not word.startswith('--') or name not in asked:
             where = 'are WATCH=' if 'E1GW_OPTIONS' in os.environ else 'stand behind --'
-            raise OptionsRefused(f'{word}: no option of {NAME}; those of e1gw-watch(1) {where}')
+            raise ValueError(f'{word}: no option of {NAME}; those of e1gw-watch(1) {where}')
         if name in FLAGS:
             value = 'yes'
         elif not equals:
             value = next(rest, '')
         if not value:
-            raise OptionsRefused(f'--{name} wants a value')
+            raise ValueError(f'--{name} wants a value')
         asked[name] = value
     return asked
 
@@ -145,7 +135,7 @@ def read(words: list[str]) -> dict[str, str]:
 def number(asked: Mapping[str, str], name: str, least: int, most: int, default: int) -> int:
     text = asked[name] or str(default)
     if not (text.isascii() and text.isdecimal() and least <= int(text) <= most):
-        raise OptionsRefused(f'--{name} {text} is not {least} to {most}')
+        raise ValueError(f'--{name} {text} is not {least} to {most}')
     return int(text)
 
 
@@ -153,9 +143,9 @@ def words_of(asked: Mapping[str, str], wait: int) -> tuple[str, ...]:
     """The options of each program."""
     repeat = number(asked, 'repeat', 0, 8, 0)
     if asked['align'] and (asked['satop'] or asked['clear']):
-        raise OptionsRefused('--align is for all 32 slots of a device or a socket; --satop aligns in any case')
+        raise ValueError('--align is for all 32 slots of a device or a socket; --satop aligns in any case')
     if asked['crc4'] and asked['clear']:
-        raise OptionsRefused('--crc4 is for all 32 slots; the device of --clear sends slot 0 itself, and CRC-4 in it')
+        raise ValueError('--crc4 is for all 32 slots; the device of --clear sends slot 0 itself, and CRC-4 in it')
     words = ['--repeat', str(repeat)] * (repeat > 0) + ['--align'] * bool(asked['align'])
     words += ['--crc4', '--live'] * bool(asked['crc4']) + ['--slots', '1-31'] * bool(asked['clear'])
     return (*words, *['--seizure-wait', str(wait)] * (wait != 200))
@@ -176,9 +166,9 @@ def line_of(asked: Mapping[str, str], program: str, folder: str) -> LineWants:
     """What the line is."""
     kinds = asked['in'] and asked['out'], asked['unix'], asked['tcp'], asked['satop']
     if bool(asked['in']) != bool(asked['out']) or sum(map(bool, kinds)) != 1:
-        raise OptionsRefused('a trunk is --in and --out, or --unix, or --tcp, or --satop')
+        raise ValueError('a trunk is --in and --out, or --unix, or --tcp, or --satop')
     if asked['clear'] and asked['satop']:
-        raise OptionsRefused('--clear is for a device that keeps slot 0; --satop has all 32 slots')
+        raise ValueError('--clear is for a device that keeps slot 0; --satop has all 32 slots')
     path, reads, writes = asked['unix'], asked['in'], asked['out']
     place = host_and_port(asked['tcp']) if asked['tcp'] else None
     blocks, is_clear = blocks_of(asked['blocks'] or '16,16'), bool(asked['clear'])
@@ -197,7 +187,7 @@ def line_of(asked: Mapping[str, str], program: str, folder: str) -> LineWants:
 def blocks_of(text: str) -> tuple[int, int]:
     frames, _, buffers = text.partition(',')
     if not (frames.isdecimal() and buffers.isdecimal() and 1 <= int(frames) <= 64 and 2 <= int(buffers) <= 32):
-        raise OptionsRefused('--blocks is FRAMES,N: 1 to 64 frames, 2 to 32 blocks')
+        raise ValueError('--blocks is FRAMES,N: 1 to 64 frames, 2 to 32 blocks')
     return int(frames), int(buffers)
 
 
@@ -218,9 +208,9 @@ def satop_of(text: str) -> tuple[str, ...]:
             host_and_port(value)
             continue
         if name not in SATOP:
-            raise OptionsRefused(f'--satop has {each}, and knows {", ".join(SATOP)}, from=, and clock= packets or own')
+            raise ValueError(f'--satop has {each}, and knows {", ".join(SATOP)}, from=, and clock= packets or own')
         its = SATOP[name]
         if not (value.isascii() and value.isdecimal() and int(value) in its):
-            raise OptionsRefused(f'{name}= of --satop is {its[0]} to {its[-1]}' + (
+            raise ValueError(f'{name}= of --satop is {its[0]} to {its[-1]}' + (
                 f', a multiple of {its.step}' if its.step > 1 else ''))
     return (near, far, *(word for name, value in asked.items() for word in (f'--{name}', value)))
