@@ -34,8 +34,7 @@ class AfterAnEndTests(unittest.TestCase):
             is_asked = end.is_well and end.reason is not EndReason.NONE and end.was_up
             is_death = decided.act is NextAct.MOVE_LOG or decided.act is NextAct.START and not is_asked
             self.assertEqual(decided.pause, FIRST_PAUSE if is_death else 0.0, end)
-            is_counted = is_death and (end.was_up or end.fault is not EndFault.LOG_IN_USE) or \
-                decided.act is NextAct.GO_BACK and end.was_up or \
+            is_counted = is_death or decided.act is NextAct.GO_BACK and end.was_up or \
                 decided.act is NextAct.NEW_LOG and end.fault is not EndFault.LOG_LOST
             self.assertEqual(decided.deaths != OFTEN, is_counted, end)
 
@@ -46,7 +45,6 @@ class AfterAnEndTests(unittest.TestCase):
         rules = (
             (end.reason is EndReason.END, NextAct.FINISH), (end.reason is EndReason.RELEASE, NextAct.RELEASE),
             (not end.was_up and end.fault is EndFault.LOG_LOST, NextAct.NEW_LOG),
-            (not end.was_up and end.fault is EndFault.LOG_IN_USE, NextAct.START),
             (not end.was_up and end.trial is not None, NextAct.GO_BACK),
             (not end.was_up and end.is_first and not end.reopens, NextAct.FINISH),
             (end.was_up and is_asked, NextAct.START),

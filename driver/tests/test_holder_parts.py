@@ -375,7 +375,6 @@ class WordsTests(unittest.TestCase):
     def test_what_a_program_says(self) -> None:
         for lines, fault in ((list[str](), EndFault.NONE), (['fault 5 Read'], EndFault.TRUNK),
                              (['fault 1 BadKind'], EndFault.NONE),
-                             (['e1gw: the log of the trunk is in use by process 5'], EndFault.LOG_IN_USE),
                              (['x', 'the log of the trunk has no state that can be loaded'], EndFault.LOG_LOST),
                              (['state 3 Sum at 5'], EndFault.LOG_LOST),
                              (['cannot write the log of the trunk'], EndFault.LOG_WRITE),

@@ -31,7 +31,6 @@ class EndFault(Enum):
 
     NONE = 'nothing that is known here'
     TRUNK = 'the trunk cannot be read or written'
-    LOG_IN_USE = 'another process has the log'
     LOG_LOST = 'the log has nothing that can be loaded'
     LOG_WRITE = 'the log takes no writes'
 
@@ -123,8 +122,6 @@ def _never_up(end: EndOfProgram) -> Decision:
     """One that did not come to carry the trunk."""
     if end.fault is EndFault.LOG_LOST:
         return Decision(NextAct.NEW_LOG, end.deaths, end.trial)
-    if end.fault is EndFault.LOG_IN_USE:
-        return Decision(NextAct.START, end.deaths, end.trial, FIRST_PAUSE)
     if end.trial:
         return Decision(NextAct.GO_BACK, end.deaths)
     if end.is_first and not end.reopens:

@@ -20,8 +20,7 @@ from .loop import Loop
 NO_RECORD = bytes(4)        # the program closes the connection for that, and logs nothing
 MOST_SAID = 1 << 20         # octets of what it says that are kept
 LAST = 65_536               # .. of which so many are looked at
-FAULTS = ((r'fault [56] ', EndFault.TRUNK), (r'.*\blog\b.* in use by', EndFault.LOG_IN_USE),
-          (r'.*\blog\b.* has no state|state \d', EndFault.LOG_LOST),
+FAULTS = ((r'fault [56] ', EndFault.TRUNK), (r'.*\blog\b.* has no state|state \d', EndFault.LOG_LOST),
           (r'cannot (open|write) the log\b', EndFault.LOG_WRITE))
 CRASHES = signal.SIGSEGV, signal.SIGBUS, signal.SIGABRT, signal.SIGILL, signal.SIGFPE, signal.SIGTRAP, signal.SIGSYS
 
