@@ -20,6 +20,7 @@ from unittest import mock
 from . import support
 from .logs import WrittenLog
 from e1gw.events import Event, Fed, NotFed
+from e1gw.holder.log import user_of
 from e1gw.holder_state import TrunkPlaces
 from e1gw.watcher import standby
 from e1gw.watcher.blocks import BlockedCircuits, KeptBlocks
@@ -303,11 +304,25 @@ class FedLogTests(support.FolderCase):
         for each in first, second:
             each.begin(b'')
             each.move_to(places.fed)
-        self.assertEqual((os.listdir(self.folder), len(self.held())), (['fed'], 8))
+        self.assertEqual((os.listdir(self.folder), len(self.held())), (['fed'], 10))
         first.close()
-        self.assertEqual((os.listdir(self.folder), len(self.held())), (['fed'], 4))
+        self.assertEqual((os.listdir(self.folder), len(self.held())), (['fed'], 5))
         second.close()
         self.assertEqual((os.listdir(self.folder), self.held()), ([], []))
+
+    def test_who_may_write(self) -> None:
+        """This process, until it says that it writes no more; and not once somebody has taken it."""
+        fed, path = FedLog(self.folder, 0, 0), TrunkPlaces(self.folder).fed
+        self.addCleanup(fed.close)
+        fed.move_to(path)
+        users = [user_of(path)]
+        for does in fed.unlock, fed.lock, fed.unlock:
+            does()
+            users.append(user_of(path))
+        self.assertEqual(users, [os.getpid(), 0, os.getpid(), 0])
+        os.rename(path, self.path('log'))
+        with self.assertRaises(FileNotFoundError):
+            fed.lock()
 
     def test_ones(self) -> None:
         """They stand for the time since octets came, each for its time once."""

@@ -1,7 +1,9 @@
 """A holder that is to take the trunk, or to release it: with which log it goes on, and who gets which answer."""
 from __future__ import annotations
 
+import fcntl
 import os
+import shutil
 import time
 from typing import Any
 from unittest import mock
@@ -52,19 +54,26 @@ class RoleCase(support.FolderCase):
 
 class TakenLogTests(RoleCase):
     def test_what_was_fed(self) -> None:
-        """It is copied in place of another log: who has it open writes to files that nobody reads."""
-        self.log('log', 'before')
-        self.log('fed', 'fed')
-        with open(self.path(f'fed/{FILES[0]}'), 'r+b', 0) as file:
-            take_log(self.holder, 5.0)
-            file.write(b'late')
-        self.assertEqual((self.found(), self.holder.lost, self.holder.why), ({'log': 'fed'}, '', 'promoted'))
-        self.assertTrue(self.holder.log.are_in(self.path('log')))       # (else it is put back again)
+        """It is in place of another log. It is copied if somebody has it locked: who writes there later writes to files
+        that nobody reads."""
+        for is_locked in False, True:
+            self.log('log', 'before')
+            self.log('fed', 'fed')
+            with open(self.path(f'fed/{FILES[0]}'), 'r+b', 0) as file, open(self.path('fed/lock'), 'rb') as lock:
+                if is_locked:
+                    fcntl.flock(lock, fcntl.LOCK_EX)
+                take_log(self.holder, 5.0)
+                self.assertIs(os.path.samestat(os.fstat(file.fileno()), os.stat(self.path(f'log/{FILES[0]}'))),
+                              not is_locked)
+            self.assertEqual((self.found(), self.holder.lost, self.holder.why), ({'log': 'fed'}, '', 'promoted'))
+            self.assertTrue(self.holder.log.are_in(self.path('log')))       # (else it is put back again)
+            shutil.rmtree(self.path('log'))
 
     def test_no_room(self) -> None:
         """Without room for a copy it is taken as it is."""
         self.log('fed', 'fed')
-        with mock.patch.object(HeldLog, 'put_back', side_effect=OSError(28, 'No space left on device')):
+        with mock.patch.object(HeldLog, 'put_back', side_effect=OSError(28, 'No space left on device')), \
+                mock.patch.object(roles, 'user_of', return_value=-1):
             take_log(self.holder, 5.0)
         self.assertEqual((self.found(), self.holder.lost), ({'log': 'fed'}, ''))
         self.assertTrue(self.holder.log.are_in(self.path('log')))

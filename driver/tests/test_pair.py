@@ -54,15 +54,16 @@ class PairTests(support.LoopCase):
         return self.standby.fed
 
     async def test_promoted(self) -> None:
-        """It is fed no more before it fills what it has, and the holder is told the next packet's number."""
+        """It is fed no more before it fills what it has, and writes no more before the holder is asked, which is told
+        the next packet's number."""
         for number, words in (None, 'take'), (0, 'take 0'):
             self.state.role, self.state.program, self.asked[:], self.runs[:] = STANDBY, 0, [], []
-            self.fed(number)
+            self.fed(number).unlock.side_effect = lambda: self.runs.append(f'unlocks before {self.asked}')
             self.its.look()
             await asyncio.sleep(0)
             self.standby.fill.side_effect = lambda: self.runs.append('fills')
             self.assertEqual(await self.its.change('promote'), DONE)
-            self.assertEqual((self.asked, self.runs), ([words], ['begins', 'ends', 'fills']))
+            self.assertEqual((self.asked, self.runs), ([words], ['begins', 'ends', 'fills', 'unlocks before []']))
             self.trunk.reader.begins_anew.assert_called_with((3, 9))
             self.standby.publish.assert_called_with(None)
 

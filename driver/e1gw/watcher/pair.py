@@ -160,6 +160,8 @@ class TrunkPair:
                 words, told = f'take {number}', f'{told}, packet {number} next'
             logger.log(NOTICE, 'the trunk is taken: %s', told)
             self._reads_on(standby.fed)
+            if standby.fed:
+                standby.fed.unlock()
         answer = await self._ask_holder(words)
         if not trunk.stands_by():
             standby.publish(None)

@@ -6,6 +6,7 @@ Each watcher is fed anew: only who was there knows how the clocks differ."""
 from __future__ import annotations
 
 import asyncio
+import fcntl
 import glob
 import logging
 import math
@@ -22,7 +23,7 @@ from e1gw_common.tls import context_of
 from ..events import Fed, NotFed, Tell
 from .feed import (BACK, BLOCKS, CARRIES, END, FRESH, GO, LENGTH, MARK, MOST_HEAD, MOST_PIECE, NOTHING, PATIENCE,
                    PIECE, STATE, TAKES, YOURS, FeedHead, FeedRefused, configured, head_of)
-from ..log_folder import RECORDS_ROOM, STATE_ROOM, LogFiles, LogPair, LogWriter, NoRoom
+from ..log_folder import LOCK, RECORDS_ROOM, STATE_ROOM, LogFiles, LogPair, LogWriter, NoRoom
 from .replay import ReplayVersion
 
 if TYPE_CHECKING:
@@ -51,13 +52,26 @@ class FedLog:
         self.folder = tempfile.mkdtemp(prefix=FED, dir=within)
         self.place, self.octets, self.numbers, self.pid, self._cut, self._has_trunk = \
             place, octets, numbers, pid, b'', False
-        self._is = os.stat(self.folder)
+        self._is, self._lock = os.stat(self.folder), -1
         self._writer = LogWriter(self.folder)
+        self.lock()
         self.came = self._took = time.monotonic()       # when the machine that it is of had octets of the trunk last
         self.fresh = self.came - FRESH          # of when it had all that the other log had
         self._ahead = math.inf                  # seconds by which this clock is ahead of the other one
         self._began = math.inf                  # when the trunk's octet 0 would have come
         self.circuits = list[int]()             # that are configured otherwise at the other machine
+
+    def lock(self) -> None:
+        """This process may write to it: who takes it meanwhile copies it. OSError if somebody has taken it."""
+        if self._lock < 0:
+            self._lock = os.open(os.path.join(self.folder, LOCK), os.O_RDWR | os.O_CREAT | os.O_CLOEXEC, 0o640)
+            fcntl.flock(self._lock, fcntl.LOCK_EX | fcntl.LOCK_NB)
+
+    def unlock(self) -> None:
+        """It writes no more."""
+        if self._lock >= 0:
+            os.close(self._lock)
+            self._lock = -1
 
     def begin(self, state: bytes, records: bytes = b'') -> None:
         """A state behind all that was taken, and records behind that."""
@@ -145,6 +159,7 @@ class FedLog:
     def close(self) -> None:
         """It is known no more. (The holder may have taken it, and another one may be in its place.)"""
         self._writer.close()
+        self.unlock()
         with suppress(OSError):
             if os.path.samestat(os.stat(self.folder), self._is):
                 shutil.rmtree(self.folder, ignore_errors=True)
@@ -316,6 +331,7 @@ class TrunkStandby:
             self.publish(None)
             return f'what is known is {age:.0f} s old'
         try:
+            fed.lock()
             with self._trunk.version() as version:
                 count = await fed.fill(version)
         except OSError as fault:            # (the calls go on without them)
