@@ -31,7 +31,7 @@ MARK = struct.Struct('>d')      # what a standby says: the time of the last piec
 TAKES, CARRIES = -1.0, -2.0     # in place of that: it takes the trunk, again and again until it carries it
 NOTHING = b'no trunk\n'         # in place of a head, where there is none
 MOST_HEAD, MOST_PIECE = 64 << 10, 256 << 10
-TICK = 0.01                 # seconds between two pieces
+TICK, HURRY = 0.01, 0.001   # seconds between two pieces, and of one who hands over: nobody carries the trunk
 PULSE = 0.25                # seconds after which a piece without octets says that all goes on
 FRESH = 2.0                 # seconds up to which a standby that has said nothing is fed
 ANSWERS = 50                # ticks, each behind what has come meanwhile, in which a standby that is there says a word
@@ -164,7 +164,7 @@ class FeedServer:
                         return await self._finish(writer, leaves)
                     if log.is_overtaken():
                         raise EOFError('it is too far behind')
-                    await asyncio.wait([leaves], timeout=TICK)
+                    await asyncio.wait([leaves], timeout=HURRY if self.hands_over else TICK)
             raise EOFError('the connection is gone' if leaves.done() else 'it takes nothing')
         finally:
             leaves.cancel()
