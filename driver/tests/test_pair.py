@@ -80,6 +80,15 @@ class PairTests(support.LoopCase):
         self.feed.finish.assert_awaited_once()
         self.assertTrue(self.trunk.reader.rests)
 
+    async def test_before_the_holder_answers(self) -> None:
+        """What it has done is told: the addresses of the trunk come while its program starts."""
+        self.holds.clear()
+        promotes = asyncio.create_task(self.its.change('promote'))
+        await self.until(lambda: self.asked and self.trunk.look.call_count)
+        self.assertFalse(promotes.done())
+        self.holds.set()
+        self.assertEqual(await promotes, DONE)
+
     async def test_somebody_else_takes_it(self) -> None:
         """It is fed no more, and its log is read from where it was fed to."""
         self.fed()

@@ -17,7 +17,7 @@ from ..events import Tell
 from ..holder_state import start_of
 from ..log_folder import LogPair
 from .ask_holder import ask
-from .feed import FRESH, FeedServer
+from .feed import FRESH, TICK, FeedServer
 from .held import HeldTrunk
 from .journal import NOTICE
 from .options import feeding_of
@@ -188,10 +188,15 @@ class TrunkPair:
             self._feed.hands_over = False
 
     async def _ask_holder(self, words: str) -> CommandAnswer:
-        """What the holder answers."""
-        answer = await ask(self._trunk.places().hold, words, PATIENCE)
-        self._trunk.look()
-        return answer
+        """What the holder answers. What it does up to then is told at once: the trunk's addresses come by that."""
+        answer = asyncio.ensure_future(ask(self._trunk.places().hold, words, PATIENCE))
+        try:
+            while not answer.done():
+                await asyncio.wait([answer], timeout=TICK)
+                self._trunk.look()
+            return answer.result()
+        finally:
+            answer.cancel()
 
     def _is_handed(self, takes: bool) -> None:
         """The other machine hands it over, or takes it back."""
