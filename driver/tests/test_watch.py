@@ -26,8 +26,8 @@ from e1gw.watcher.commands import MOST_HELD, ControlPeer
 from e1gw.watcher.connection import ProgramConnection
 from e1gw.watcher.journal import NOTICE, LineFormatter
 from e1gw.watcher.missed import MissedReports
-from e1gw.watcher.note import typed
 from e1gw.watcher.page import PageNotes, body_of, parts_of
+from e1gw_common.plain import typed
 from e1gw_common.web import MOST_VISITORS, WebServer
 from e1gw.watcher.http_pages import TrunkPages
 from e1gw.watcher.trunk import PairFacts, TrunkFacts

@@ -6,10 +6,10 @@ import json
 from contextlib import suppress
 from dataclasses import dataclass
 
+from e1gw_common.plain import typed
 from ..calls import CallsNote
 from .blocks import BlockStage, BlockedCircuits
 from .held import HeldNote
-from .note import typed
 from .reader import ReadingNote
 from .recordings import RecordingNote
 from .tell_client import ToldNote
@@ -37,11 +37,10 @@ class WatchNote:
 
 def note_in(octets: bytes) -> WatchNote | None:
     """The note that octets are; None if they are none of this version."""
-    with suppress(ValueError, TypeError, KeyError, AttributeError):
+    with suppress(ValueError, AttributeError):
         plain = json.loads(octets)
-        if plain.pop('version') == VERSION:
-            note: WatchNote = typed(WatchNote, plain)
-            return note
+        if plain.get('version') == VERSION:
+            return typed(WatchNote, plain)
     return None
 
 

@@ -1,13 +1,9 @@
-"""What a process notes for the next one: typed JSON in files, of one version. None of it is needed for a call to go
-on."""
+"""What a process notes for the next one, in files. None of it is needed for a call to go on."""
 from __future__ import annotations
 
-import dataclasses
 import os
-import types
 import zlib
 from contextlib import suppress
-from typing import Any, Union, get_args, get_origin, get_type_hints
 
 from e1gw_common.writers import write_at
 from ..log_folder import HEAD_LEN, Head, head_of
@@ -50,24 +46,3 @@ class NoteFiles:
         finally:
             os.close(file)
         self._turn, self._text = turn, text
-
-
-def typed(kind: Any, plain: Any) -> Any:
-    """A value of a type, of what JSON has in its place. TypeError or KeyError if it has another one."""
-    if dataclasses.is_dataclass(kind):
-        hints = get_type_hints(kind)
-        names = [field.name for field in dataclasses.fields(kind) if field.name in plain]   # (others have a default)
-        return kind(**{name: typed(hints[name], plain[name]) for name in names})
-    if hasattr(kind, '_fields'):            # (a NamedTuple)
-        return kind(*(typed(its, value) for its, value in zip(get_type_hints(kind).values(), plain, strict=True)))
-    origin, of = get_origin(kind), get_args(kind)
-    if origin in (Union, types.UnionType):
-        return None if plain is None and type(None) in of else typed(of[0], plain)
-    if origin is tuple:
-        each = [of[0]] * len(plain) if of[1:] == (...,) else of
-        return tuple(typed(its, value) for its, value in zip(each, plain, strict=True))
-    if origin is dict:
-        return {int(key) if of[0] is int else typed(of[0], key): typed(of[1], value) for key, value in plain.items()}
-    if type(plain) is not kind and not (kind is float and type(plain) is int):
-        raise TypeError(f'{plain!r} is no {kind}')
-    return plain
