@@ -22,7 +22,7 @@ from dahdi_talk import Talk, figures
 from e1gw.card_opening import open_device
 from e1gw.dahdi import Alarm, Blocks
 from e1gw.events import CardAlarm, CardAlarmChanged
-from e1gw_common.lines import UNKNOWN
+from e1gw_common.lines import State
 from e1gw_testing.openr2 import OpenR2
 from e1gw_testing.service import ask
 
@@ -78,7 +78,7 @@ class Pair:
     def goes_on(self, before: list[int]) -> bool:
         """Whether the west has another program than before, and both have alignment. (A service that has just begun
         was told nothing yet.)"""
-        is_told = UNKNOWN not in self.west.states()
+        is_told = State.UNKNOWN not in self.west.states()
         return bool(set(self.west.programs()) - set(before)) and is_told and all(s.is_heard() for s in self.sites)
 
     def talk(self, seconds: float) -> Talk:

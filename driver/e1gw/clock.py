@@ -8,7 +8,6 @@ from __future__ import annotations
 
 from collections import deque
 from dataclasses import dataclass
-from typing import Any
 
 from e1gw_common.session import OCTETS_A_SECOND
 
@@ -34,6 +33,19 @@ class ClockFinding:
     value: float
     since: float | None = None
     octets: int = 0
+
+
+@dataclass(frozen=True)
+class ClockStatus:
+    """How octets flow, as a status has it."""
+
+    gaps: int = 0
+    gap_seconds: float = 0.0
+    ppm: float | None = None
+    rate: float | None = None
+    rate_wrong: bool = False
+    stalled: bool = False
+    stalls: int = 0
 
 
 class TrunkRate:
@@ -169,9 +181,7 @@ class Clock:
         self.off_rate = off
         return [ClockFinding('rate', self.ppm)]
 
-    def status(self) -> dict[str, Any]:
-        """All of it, as plain values."""
-        return {'gaps': self.gaps, 'gap_seconds': round(self.lost_seconds, 3),
-                'ppm': None if self.ppm is None else round(self.ppm, 1),
-                'rate': None if self.rate.ratio is None else round(self.rate.ratio, 4),
-                'rate_wrong': self.rate.is_wrong}
+    def status(self) -> ClockStatus:
+        """All that is known by it."""
+        return ClockStatus(self.gaps, round(self.lost_seconds, 3), None if self.ppm is None else round(self.ppm, 1),
+                           None if self.rate.ratio is None else round(self.rate.ratio, 4), self.rate.is_wrong)

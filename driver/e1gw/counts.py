@@ -3,7 +3,7 @@ from __future__ import annotations
 
 from dataclasses import dataclass, field, replace
 from operator import add, sub
-from typing import Any, Callable, Mapping
+from typing import Callable, Mapping
 
 from e1gw_common.lost import ReceivedNumbers
 from e1gw_common.session import CIRCUITS, HEAD, DatagramRefusal, Kind
@@ -42,6 +42,18 @@ class PacketsNote:
     told: ToldCounts
     lost: int
     cause: str
+
+
+@dataclass(frozen=True)
+class PacketStatus:
+    """The counts of a circuit, as its row of a status has them: by `sent`, `admitted` and causes of refusals; and why
+    its call sounds wrong, by its packets."""
+
+    datagrams: Mapping[str, int] = field(default_factory=dict)
+    lost: int = 0
+    jitter_ms: float = 0.0
+    stale: bool = False
+    speech: str | None = None
 
 
 @dataclass(slots=True)
@@ -166,9 +178,8 @@ class DatagramCounts:
                     row.cause = row.cause or code.label * (code is not DatagramRefusal.NOT_OPEN)
                     self._counted(circuit, int(code), place, more)
 
-    def status(self, circuit: int) -> dict[str, Any]:
-        """The counts of a circuit, as plain values."""
+    def status(self, circuit: int) -> PacketStatus:
+        """The counts of a circuit."""
         row = self.circuits[circuit]
-        return {'datagrams': row.counts(), 'lost': row.numbers.count_lost,
-                'jitter_ms': round(row.stream.jitter / SAMPLES, 2), 'stale': self.stale(),
-                'speech': row.speech.why_wrong() or None}
+        return PacketStatus(row.counts(), row.numbers.count_lost, round(row.stream.jitter / SAMPLES, 2), self.stale(),
+                            row.speech.why_wrong() or None)

@@ -2,14 +2,27 @@
 each second of the trunk, and at its end."""
 from __future__ import annotations
 
-from dataclasses import dataclass
-from typing import Any
+from dataclasses import dataclass, fields
 
 from .events import Crc4Change, Crc4Changed
 
-# What is counted, by the names that the program prints.
-COUNTS = ('submultiframes', 'errored', 'far_end_errored', 'multiframes_found', 'multiframes_lost', 'given_up')
 QUIET = 10                      # counts without an error after which errors are over
+
+
+@dataclass(frozen=True)
+class Crc4Status:
+    """What is counted, and whether there was alignment at the last count, as a status has it."""
+
+    submultiframes: int = 0
+    errored: int = 0
+    far_end_errored: int = 0
+    multiframes_found: int = 0
+    multiframes_lost: int = 0
+    given_up: int = 0
+    aligned: bool | None = None
+
+
+COUNTS = tuple(each.name for each in fields(Crc4Status))[:-1]       # (the names that the program prints)
 
 
 def counts_in(line: str) -> dict[str, int]:
@@ -101,6 +114,5 @@ class Crc4:
         """Goes on where another one has left."""
         self.counts, self.aligned, self._last = note.counts.copy(), note.aligned, note.last.copy()
 
-    def status(self) -> dict[str, Any]:
-        """As plain values."""
-        return {**self.counts, 'aligned': self.aligned}
+    def status(self) -> Crc4Status:
+        return Crc4Status(**self.counts, aligned=self.aligned)

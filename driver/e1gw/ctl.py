@@ -142,7 +142,7 @@ def codec_saved(path: str, numbers: str, codec: str, kind: str, patience: float)
     """Gives circuits a codec, also in the configuration; returns the status."""
     if status := run(path, ['codec', numbers, codec, kind], patience):
         return status
-    file = status_of(path, patience)['config_file']
+    file = status_of(path, patience).files.config_file
     try:
         save_codecs(file, [int(each) for each in circuits_of(numbers)], codec, int(kind))
     except ValueError as fault:

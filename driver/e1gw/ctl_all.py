@@ -1,22 +1,24 @@
 """The trunks of this machine, a line for each."""
 from __future__ import annotations
 
-import json
 import os
 import socket
 import struct
 import time
 from contextlib import suppress
-from typing import Any, BinaryIO, Callable, Iterable, Iterator, Mapping, NamedTuple
+from typing import BinaryIO, Callable, Iterable, Iterator, NamedTuple
 
 from e1gw_common.fault_words import group_of, named, words_of_fault
-from e1gw_common.lines import REMOTE
+from e1gw_common.lines import REMOTE, State
+from e1gw_common.session import DatagramRefusal
 from .deaf import words_of_rows
-from .metrics import block_words, satop_words, state_of, wrong_rate
+from .metrics import block_words, state_of, wrong_rate
+from .status import TrunkStatus, status_in
 
 SOCKETS, UNITS = '/run/e1gw', '/etc/e1gw'
 PATIENCE = 5.0              # seconds that a trunk has to answer
 LIMITS = {'reload': 120.0, 'promote': 60.0, 'demote': 60.0, 'move': 60.0}       # .. what may take it longer
+LATE = DatagramRefusal.LATE.label
 EXAMPLE = 'example'         # of the package, and no trunk
 HEAD = f'{"trunk":12} {"e1gw":8} {"up since (UTC)":17} {"calls":>5} {"lost":>8} {"late":>8}  state'
 
@@ -85,24 +87,26 @@ def answer_to(line: socket.socket, stream: BinaryIO, command: str, patience: flo
         raise TimeoutError(f'no answer within {limit:g} s, it may still be done') from None
 
 
-def status_of(path: str, patience: float) -> dict[str, Any]:
-    """The status that a trunk answers. OSError or ValueError where it answers none."""
+def status_text(path: str, patience: float) -> bytes:
+    """The JSON of the status that a trunk answers. OSError where it answers none."""
     with connected(path, patience) as line:
         stream: BinaryIO = line.makefile('rb')
         line.sendall(b'status json\n')
-        found = json.loads(stream.readline())
-    if not isinstance(found, dict):
-        raise ValueError('its answer is no status')
-    return found
+        return stream.readline()
 
 
-def each_status(trunks: Iterable[tuple[str, str]], patience: float, work: Callable[[str, Any], None]) -> int:
+def status_of(path: str, patience: float) -> TrunkStatus:
+    """The same status. OSError or ValueError where it answers none."""
+    return status_in(status_text(path, patience))
+
+
+def each_status(trunks: Iterable[tuple[str, str]], patience: float, work: Callable[[str, TrunkStatus], None]) -> int:
     """Does a work with the status of each trunk, and prints why it cannot; returns the status."""
     status = 0
     for name, path in trunks:
         try:
             work(name, status_of(path, patience))
-        except (OSError, ValueError, KeyError) as fault:
+        except (OSError, ValueError) as fault:
             print(f'{name}: {words_of_fault(fault)}', flush=True)
             status = 1
     return status
@@ -120,20 +124,19 @@ class TrunkLine(NamedTuple):
     state: str = ''
 
     @classmethod
-    def from_status(cls, name: str, status: Mapping[str, Any]) -> TrunkLine:
+    def from_status(cls, name: str, status: TrunkStatus) -> TrunkLine:
         """That of a status."""
-        rows = status['circuits']
-        since = '' if status.get('fault') else time.strftime('%Y-%m-%d %H:%M',
-                                                             time.gmtime(status['time'] - status['uptime']))
-        far = [what for what, on in status['remote_alarm'].items() if on]
-        alarms = f'; the other end: {", ".join(REMOTE[what] for what in far)}' if far and status['trunk_up'] else ''
-        ended = [what for what, why in status['ended'].items() if why is not None]
-        told = (f'; ended: {", ".join(ended)}' if ended else '') + ('; not fed' if status.get('fed') is False else '')
-        more = wrong_rate(status['clock']), satop_words(status), words_of_rows(rows), block_words(rows)
-        told += ''.join(f'; {words}' for words in more if words)
-        late = sum(row['datagrams'].get('Late', 0) for row in rows)
-        return cls(name, status['version'], since, str(sum(row['state'] == 'answered' for row in rows)),
-                   str(sum(row['lost'] for row in rows)), str(late), f'{state_of(status)}{alarms}{told}')
+        rows, pair, satop = status.circuits, status.pair, status.transport.satop
+        since = '' if status.fault else time.strftime('%Y-%m-%d %H:%M', time.gmtime(status.time - status.uptime))
+        far = ', '.join(REMOTE[what] for what, on in status.told.remote_alarm.items() if on and status.told.trunk_up)
+        ended = ', '.join(what for what, why in status.ended.items() if why is not None)
+        more = (f'the other end: {far}' * bool(far), f'ended: {ended}' * bool(ended),
+                'not fed' * bool(pair and not pair.fed), wrong_rate(status.clock),
+                f'satop: {satop.satop}' if satop and satop.satop else '', words_of_rows(rows), block_words(rows))
+        return cls(name, status.version, since, str(sum(row.line.state is State.ANSWERED for row in rows)),
+                   str(sum(row.packets.lost for row in rows)),
+                   str(sum(row.packets.datagrams.get(LATE, 0) for row in rows)),
+                   '; '.join(filter(None, (state_of(status), *more))))
 
     def __str__(self) -> str:
         front = f'{self.version:8} {self.since:17} {self.calls:>5} {self.lost:>8} {self.late:>8}  ' * bool(self.version)
@@ -145,7 +148,7 @@ class TrunkHere(NamedTuple):
 
     is_in_service: bool
     line: TrunkLine
-    status: dict[str, Any] | None = None
+    status: TrunkStatus | None = None
 
 
 def asked_trunks(patience: float) -> Iterator[TrunkHere]:
@@ -155,7 +158,7 @@ def asked_trunks(patience: float) -> Iterator[TrunkHere]:
         try:
             status = status_of(path, patience)
             yield TrunkHere(True, TrunkLine.from_status(name, status), status)
-        except (OSError, ValueError, KeyError) as fault:
+        except (OSError, ValueError) as fault:
             yield TrunkHere(True, TrunkLine(name, state=f'does not answer: {words_of_fault(fault, path)}'))
     for name in sorted(set(units_here()) - {name for name, _ in here} - {EXAMPLE}):
         yield TrunkHere(False, TrunkLine(name, state=f'not in service: systemctl status e1gw-trunk@{name}'))

@@ -7,7 +7,7 @@ from dataclasses import dataclass
 from enum import Enum, auto
 from itertools import islice, takewhile
 from math import inf
-from typing import Any, Iterable, Iterator, Mapping
+from typing import Iterable, Iterator
 
 from e1gw_common.call_lines import FIELDS as FIELDS_OF_CALLS, CallLine, csv_line, read_calls
 from e1gw_common.line_files import files_of
@@ -16,6 +16,7 @@ from .call_sums import CallSums, sums_of
 from .ctl_all import each_status
 from .deaf import words_of_call
 from .outages import FIELDS, outages_in
+from .status import TrunkStatus
 from .watcher.page import length, outages_page
 
 LAST = 20                   # calls that have ended, if nothing else is asked for
@@ -87,10 +88,10 @@ def calls_listed(trunks: Iterable[tuple[str, str]], wanted: Wanted, is_csv: bool
     """Prints the calls of trunks, the last one last, and their sums; returns the status."""
     found = list[CallLine]()
 
-    def lists(_: str, told: Mapping[str, Any]) -> None:
-        file = told['calls_file']
+    def lists(_: str, of: TrunkStatus) -> None:
+        file = of.files.calls_file
         ended = wanted.select_ended(read_calls(file)) if file else []
-        its = [*reversed(ended), *wanted.select_open(CallLine(**each) for each in told['calls'])]
+        its = [*reversed(ended), *wanted.select_open(of.calls)]
         found.extend(its)
         for call in its:
             print(csv_line(call) if is_csv else row_of(call), flush=True)
@@ -122,11 +123,11 @@ def outages_listed(trunks: Iterable[tuple[str, str]], since: float | None, until
             return rows.append(its)
         print(csv_line(its) if form is OutageForm.CSV else OUTAGE.format(*its).rstrip(), flush=True)
 
-    def lists(name: str, told: Mapping[str, Any]) -> None:
-        if not told['events_file']:
+    def lists(name: str, of: TrunkStatus) -> None:
+        if not of.files.events_file:
             raise ValueError('it writes no --json FILE: its outages are not known')
-        for each in outages_in(lines_of(told['events_file']), since or 0.0, inf if until is None else until):
-            puts(each.fields(told.get('name', name)))
+        for each in outages_in(lines_of(of.files.events_file), since or 0.0, inf if until is None else until):
+            puts(each.fields(of.name or name))
     puts(FIELDS)
     status = each_status(trunks, patience, lists)
     if rows:

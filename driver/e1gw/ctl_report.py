@@ -11,14 +11,15 @@ import time
 from contextlib import suppress
 from itertools import islice
 from pathlib import Path
-from typing import Any, Iterator, Mapping
+from typing import Iterator, Mapping
 
 from e1gw_common.call_lines import FIELDS, csv_line, read_calls
 from e1gw_common.faults import words_of_fault
 from . import VERSION
 from .addresses import HiddenAddresses
-from .ctl_all import UNITS, status_of
+from .ctl_all import UNITS, status_text
 from .metrics import table
+from .status import TrunkStatus, status_in
 
 CALLS, LINES = 200, 2000    # of the last calls, and of the journal
 JOURNAL = ['journalctl', '--no-pager', '--no-hostname', '-q', '-o', 'short-iso', '-n', str(LINES)]
@@ -48,9 +49,9 @@ def options_of(name: str) -> Iterator[tuple[str, str]]:
                 yield path.name, f'{words_of_fault(fault)}\n'
 
 
-def calls_of(status: Mapping[str, Any]) -> str:
+def calls_of(status: TrunkStatus) -> str:
     """The lines of its last calls, the last one first."""
-    if not (file := status['calls_file']):
+    if not (file := status.files.calls_file):
         return 'it writes no --calls\n'
     try:
         lines = [csv_line(call) for call in islice(read_calls(file), CALLS)]
@@ -64,11 +65,11 @@ def parts_of(name: str, path: str, now: float, patience: float) -> dict[str, str
     parts = {'about': f'e1gw {VERSION}, trunk {name}, {time.strftime("%Y-%m-%dT%H:%M:%SZ", time.gmtime(now))}\n'
              f'{platform.platform()}, Python {platform.python_version()}, {os.cpu_count()} processors\n'}
     try:
-        status = status_of(path, patience)
-        name = status['name']
-        parts |= {'status.json': json.dumps(status, indent=1) + '\n', 'status': table(status),
+        status = status_in(text := status_text(path, patience))
+        name = status.name
+        parts |= {'status.json': json.dumps(json.loads(text), indent=1) + '\n', 'status': table(status),
                   'calls.csv': calls_of(status)}
-    except (OSError, ValueError, KeyError) as fault:
+    except (OSError, ValueError) as fault:
         parts['status'] = f'it does not answer: {words_of_fault(fault, path)}\n'
     return {**parts, **dict(options_of(name)), 'journal': journal_of(name)}
 

@@ -3,16 +3,18 @@ from __future__ import annotations
 
 import time
 from dataclasses import dataclass
-from typing import Any, Callable, Collection, Mapping
+from typing import Callable, Collection
 
 from e1gw_common.faults import words_of_fault
 from e1gw_common.lines import State, circuit_words
 from .ctl_all import status_of
+from .events import BlockNews
 from .metrics import states_of
+from .status import TrunkStatus
 
 LOOK = 0.5                  # seconds between two looks
 LEFT = 3                    # the status if some circuits are not in the state
-STATES = [*map(str, State), 'blocking']
+STATES = [*(str(each) for each in State if each is not State.UNKNOWN), str(BlockNews.BLOCKING)]
 Trunks = list[tuple[str, str]]
 
 
@@ -23,19 +25,19 @@ class AwaitedState:
     circuits: Collection[int]
     state: str
 
-    def found(self, status: Mapping[str, Any]) -> tuple[bool, str]:
+    def found(self, status: TrunkStatus) -> tuple[bool, str]:
         """Whether they are, and in which states those are that are not."""
-        if status.get('fault'):
-            return False, str(status['fault'])
-        rows = [row for row in status['circuits'] if row['circuit'] in self.circuits]
-        left = dict[str, list[int]]()
+        if status.fault:
+            return False, status.fault
+        rows = [row for row in status.circuits if row.line.circuit in self.circuits]
+        left = dict[State, list[int]]()
         for row in rows:
             if self.state not in states_of(row):
-                left.setdefault(row['state'], []).append(row['circuit'])
+                left.setdefault(row.line.state, []).append(row.line.circuit)
         if left or not rows:
             words = (f'{circuit_words(circuits)} {state}' for state, circuits in left.items())
             return False, ', '.join(words) or 'it has no such circuit'
-        return True, f'{circuit_words(row["circuit"] for row in rows)} {self.state}'
+        return True, f'{circuit_words(row.line.circuit for row in rows)} {self.state}'
 
     def look(self, path: str, patience: float) -> tuple[bool, str]:
         """The same of a trunk that is asked."""
@@ -43,7 +45,7 @@ class AwaitedState:
             return self.found(status_of(path, patience))
         except (FileNotFoundError, ConnectionRefusedError):
             return False, f'nobody listens at {path}'
-        except (OSError, ValueError, KeyError) as fault:
+        except (OSError, ValueError) as fault:
             return False, f'it does not answer: {words_of_fault(fault, path)}'
 
 

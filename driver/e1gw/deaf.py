@@ -12,6 +12,7 @@ from e1gw_common.session_clock import second_of
 from .counts import REASONS, ToldCounts
 from .events import CallsDeaf, Tell
 from .heard_speech import SOUNDS_WRONG
+from .status import CircuitStatus
 
 DEAF_AFTER = 2 * OCTETS_A_SECOND        # octets of the trunk
 HEARS_NOTHING, NO_PACKETS = 'hears nothing', 'no packets'
@@ -84,19 +85,19 @@ class DeafCalls:
         return Hearing(counts, place)
 
 
-def words_of_row(row: Mapping[str, object]) -> str:
+def words_of_row(row: CircuitStatus) -> str:
     """That a circuit of a status hears nothing, or sounds wrong; nothing if neither, or if that is not known."""
-    if row.get('deaf'):
-        return f'{HEARS_NOTHING}: {row["deaf"]}'
-    return f'{SOUNDS_WRONG}: {row["speech"]}' if row.get('speech') else ''
+    if row.deaf:
+        return f'{HEARS_NOTHING}: {row.deaf}'
+    return f'{SOUNDS_WRONG}: {row.packets.speech}' if row.packets.speech else ''
 
 
-def words_of_rows(rows: Iterable[Mapping[str, object]]) -> str:
+def words_of_rows(rows: Iterable[CircuitStatus]) -> str:
     """Which circuits of a status hear nothing, or sound wrong, by the cause."""
     circuits = dict[str, dict[str, list[int]]]()
     for row in rows:
         what, _, why = words_of_row(row).partition(': ')
-        circuits.setdefault(what, {}).setdefault(why, []).append(int(str(row['circuit'])))
+        circuits.setdefault(what, {}).setdefault(why, []).append(row.line.circuit)
     return '; '.join(f'{what}: ' + ', '.join(f'{circuit_words(its)} ({why})' for why, its in whys.items())
                      for what, whys in circuits.items() if what)
 

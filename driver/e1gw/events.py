@@ -472,7 +472,3 @@ class ReadEvents:
         """Goes on with those that another process has had."""
         self.last.extend(last)
         self._alarms |= alarms
-
-    def alarms(self) -> list[dict[str, object]]:
-        """As plain values."""
-        return [each._asdict() for each in self._alarms.values()]

@@ -5,10 +5,12 @@ from __future__ import annotations
 
 import socket
 from contextlib import suppress
+from dataclasses import dataclass
 from typing import Mapping, NamedTuple, Sequence
 
 from e1gw_common.addresses import host_and_port
 from e1gw_common.fault_words import named
+from e1gw_common.plain import flat
 
 FIRST = 'satop '            # how a line of counts begins
 
@@ -123,15 +125,23 @@ def is_about(found: int, wanted: int) -> bool:
     return 2 * abs(found - wanted) < wanted
 
 
-def status_of(seen: SatopSeen) -> dict[str, object]:
-    """The counts; all conditions by their names, 1 for those that hold, and those in words."""
+@dataclass(frozen=True)
+class SatopStatus:
+    """What holds, in words; and by their names all counts, and all conditions, 1 for those that hold."""
+
+    satop: str
+    numbers: Mapping[str, int] = flat()
+
+    def words(self) -> str:
+        """The line of SAToP for people."""
+        received, lost, *refused = (self.numbers.get(name, 0) for name in (
+            'received', 'lost', *(each.grows for each in REFUSED)))
+        return f'satop: {self.satop or "no fault"}; received {received}, lost {lost}, refused {sum(refused)}'
+
+
+def status_of(seen: SatopSeen) -> SatopStatus | None:
+    """None before anything was counted."""
     names = {each.name for each in seen.holding}
     named = {each.name: int(each.name in names) for each in (SILENT, STRANGE, *REFUSED, *BITS)}
-    return {**seen.counts, **named, 'satop': '; '.join(each.words for each in seen.holding)} if seen.counts else {}
-
-
-def words_of_status(its: Mapping[str, object]) -> str:
-    """The line of SAToP for people."""
-    refused = sum(int(str(its.get(each.grows, 0))) for each in REFUSED)
-    return (f'satop: {its["satop"] or "no fault"}; received {its.get("received", 0)}, lost {its.get("lost", 0)}, '
-            f'refused {refused}')
+    words = '; '.join(each.words for each in seen.holding)
+    return SatopStatus(words, {**seen.counts, **named}) if seen.counts else None

@@ -4,7 +4,6 @@ from __future__ import annotations
 
 import re
 from dataclasses import dataclass
-from typing import Any
 
 from .dahdi import SLOTS
 from .events import SlotsChange, SlotsChanged
@@ -20,6 +19,16 @@ class SlotsNote:
     lost: int
     moved: int
     delay: int | None
+
+
+@dataclass(frozen=True)
+class SlotsStatus:
+    """The same, as a status has it."""
+
+    slots: str = 'clear'
+    silent: bool = True
+    slots_lost: int = 0
+    slots_moved: int = 0
 
 
 class Slots:
@@ -47,9 +56,8 @@ class Slots:
         """Another program follows, which has to find slot 16."""
         self.silent = True
 
-    def status(self) -> dict[str, Any]:
-        """All of it, as plain values."""
-        return {'slots': 'clear', 'silent': self.silent, 'slots_lost': self.lost, 'slots_moved': self.moved}
+    def status(self) -> SlotsStatus:
+        return SlotsStatus('clear', self.silent, self.lost, self.moved)
 
     def note(self) -> SlotsNote:
         """The same, and what the next one is compared with."""

@@ -2,7 +2,8 @@
 from __future__ import annotations
 
 from contextlib import suppress
-from typing import Any, Iterable, Iterator, Mapping
+from dataclasses import dataclass
+from typing import Iterable, Iterator, Mapping
 
 from e1gw_common.lines import Line
 
@@ -10,7 +11,16 @@ TABLES = ('/proc/self/net/udp', '/proc/self/net/udp6')
 SNMP = '/proc/self/net/snmp', '/proc/self/net/snmp6'
 PIECE = 1 << 16
 
-Sockets = Mapping[int, Mapping[str, int]]
+
+@dataclass(frozen=True)
+class SocketStatus:
+    """A socket: octets that wait in it, and datagrams for which the kernel had no room."""
+
+    waiting: int
+    dropped: int
+
+
+Sockets = Mapping[int, SocketStatus]
 
 
 def _rows() -> Iterator[list[str]]:
@@ -25,13 +35,13 @@ def _rows() -> Iterator[list[str]]:
 
 
 def sockets_of(lines: Iterable[Line]) -> Sockets:
-    """Of each circuit with a port: octets that wait in its socket, and datagrams for which the kernel had no room."""
+    """Those of circuits with a port."""
     ports = {line.port: line.circuit for line in lines if line.port}
-    found: dict[int, dict[str, int]] = {}
+    found = dict[int, SocketStatus]()
     for words in _rows() if ports else ():
         circuit = ports.get(int(words[1].rpartition(':')[2], 16))
         if circuit:
-            found[circuit] = {'waiting': int(words[4].partition(':')[2], 16), 'dropped': int(words[-1])}
+            found[circuit] = SocketStatus(int(words[4].partition(':')[2], 16), int(words[-1]))
     return found
 
 
@@ -47,9 +57,3 @@ def unheard() -> int:
                     found += int(words[1])
                 heads = words
     return found
-
-
-def with_sockets(status: Mapping[str, Any], sockets: Sockets) -> dict[str, Any]:
-    """A status with what the kernel tells of each circuit's socket."""
-    rows = [{**row, 'socket': sockets.get(row['circuit'])} for row in status['circuits']]
-    return {**status, 'circuits': rows}

@@ -3,6 +3,7 @@ from __future__ import annotations
 
 import re
 from collections.abc import Sequence
+from dataclasses import dataclass
 from enum import StrEnum
 from typing import NamedTuple
 
@@ -44,6 +45,15 @@ class CommandAnswer(NamedTuple):
         """As it is sent."""
         last = f'{self.word}: {self.why}' if self.why else self.word
         return '\n'.join(f'{command}: {line}' for line in (*self.told, last))
+
+
+@dataclass(frozen=True)
+class CommandCount:
+    """How often a command had an answer."""
+
+    command: str
+    answer: str
+    count: int
 
 
 DONE = CommandAnswer(AnswerWord.DONE)

@@ -29,6 +29,7 @@ class State(StrEnum):
     RELEASING = 'releasing'
     BLOCKED = 'blocked'
     FAULT = 'fault'
+    UNKNOWN = 'unknown'         # nothing was told yet
 
 
 class Alignment(StrEnum):
@@ -43,7 +44,6 @@ REMOTE: Mapping[str, str] = {
     Alignment.FRAME: 'RAI (bit A)', Alignment.MULTIFRAME: 'distant multiframe alarm (bit y)'}
 OPEN = frozenset((State.ACKED, State.ANSWERED, State.CLEAREDBACK))      # speech goes through
 IN_CALL = OPEN | {State.SEIZED}
-UNKNOWN = 'unknown'         # in place of a state of which nothing was told yet
 LEADS = {Command.SEIZE: State.SEIZED, Command.CLEAR: State.RELEASING, Command.ANSWER: State.ANSWERED,
          Command.CLEAR_BACK: State.CLEAREDBACK, Command.BLOCK: State.BLOCKED, Command.UNBLOCK: State.IDLE}
 PAIRS = {None: '--', 0: '00', 1: '01', 2: '10', 3: '11'}
@@ -58,6 +58,33 @@ class LineCounts:
     unacknowledged: int = 0
     faults: int = 0
     open_for: float = 0.0
+
+
+@dataclass(frozen=True)
+class LineStatus:
+    """All that is known of a line, as its circuit's row of a status has it."""
+
+    circuit: int
+    role: Role = Role.OUTGOING
+    state: State = State.UNKNOWN
+    sent: str = PAIRS[None]
+    recognised: str = PAIRS[None]
+    for_: float = 0.0           # seconds in the state
+    seizures: int = 0
+    answers: int = 0
+    unacknowledged: int = 0
+    faults: int = 0
+    open: float = 0.0
+    codec: str = ''
+    payload: int = 0
+    configured_codec: str = ''
+    configured_payload: int = 0
+    prefill: int = 0
+    jitter_buffer_ms: float = 0.0
+
+    def has_other_codec(self) -> bool:
+        """Whether a command has given it another codec than its configuration."""
+        return (self.codec, self.payload) != (self.configured_codec, self.configured_payload)
 
 
 @dataclass(slots=True)
@@ -123,16 +150,14 @@ class Line:
         """Whether a command has given it another codec than its configuration."""
         return (self.codec, self.payload) != self.configured
 
-    def status(self, now: float) -> dict[str, Any]:
-        """All that is known of it, as plain values."""
+    def status(self, now: float, is_known: bool = True) -> LineStatus:
+        """All that is known of it."""
         opened = 0 if self.opened is None else now - self.opened
-        return {
-            'circuit': self.circuit, 'role': str(self.role), 'state': str(self.state), 'sent': PAIRS[self.sent],
-            'recognised': PAIRS[self.recognised], 'for': round(now - self.since, 3),
-            'seizures': self.seizures, 'answers': self.answers, 'unacknowledged': self.unacknowledged,
-            'faults': self.faults, 'open': round(self.open_for + opened, 3), 'codec': self.codec,
-            'payload': self.payload, 'configured_codec': self.configured[0], 'configured_payload': self.configured[1],
-            'prefill': self.prefill, 'jitter_buffer_ms': self.prefill * 1000 / SAMPLES_A_SECOND}
+        state = self.state if is_known else State.UNKNOWN
+        return LineStatus(
+            self.circuit, self.role, state, PAIRS[self.sent], PAIRS[self.recognised], round(now - self.since, 3),
+            self.seizures, self.answers, self.unacknowledged, self.faults, round(self.open_for + opened, 3), self.codec,
+            self.payload, *self.configured, self.prefill, self.prefill * 1000 / SAMPLES_A_SECOND)
 
 
 def circuit_words(circuits: Iterable[int]) -> str:

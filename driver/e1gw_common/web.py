@@ -8,28 +8,29 @@ import re
 import socket
 from collections.abc import Awaitable, Callable
 from dataclasses import dataclass
-from typing import Any
+from typing import Generic, TypeVar
 
 from .faults import named
+from .plain import plain_of
 
 SECONDS, MOST_VISITORS = 10.0, 64   # for one request, and who may ask at once
 HEAD = ('HTTP/1.0 {status}\r\nContent-Type: {kind}; charset=utf-8\r\nContent-Security-Policy: {policy}\r\n'
         'X-Content-Type-Options: nosniff\r\nCache-Control: no-store\r\nConnection: close\r\n')
 NOTHING = "default-src 'none'"      # what a page may load
 
+S = TypeVar('S')
 Stream = Callable[[asyncio.StreamReader, asyncio.StreamWriter], Awaitable[None]]
 
 
-class StatusTexts:
-    """A status of plain values, and the texts of it, each made once."""
+class StatusTexts(Generic[S]):
+    """A status, and the texts of it, each made once."""
 
-    def __init__(self, status: dict[str, Any], table_of: Callable[[dict[str, Any]], str],
-                 metrics_of: Callable[[dict[str, Any]], str]) -> None:
+    def __init__(self, status: S, table_of: Callable[[S], str], metrics_of: Callable[[S], str]) -> None:
         self.status, self._table_of, self._metrics_of = status, table_of, metrics_of
 
     @functools.cached_property
     def json(self) -> str:
-        return json.dumps(self.status)
+        return json.dumps(plain_of(self.status))
 
     @functools.cached_property
     def table(self) -> str:
@@ -90,7 +91,7 @@ class WebServer:
 
     others: tuple[str, ...] = ()        # paths beside those of the status
 
-    def __init__(self, fresh: Callable[[], Awaitable[StatusTexts]]) -> None:
+    def __init__(self, fresh: Callable[[], Awaitable[StatusTexts[S]]]) -> None:
         self._fresh, self._visitors = fresh, dict[asyncio.Task[None], None]()
 
     async def on_connect(self, reader: asyncio.StreamReader, writer: asyncio.StreamWriter) -> None:

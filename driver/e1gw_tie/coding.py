@@ -6,11 +6,11 @@ payload type, and plays silence."""
 from __future__ import annotations
 
 from dataclasses import dataclass
-from typing import Any, Callable, Iterable, NamedTuple
+from typing import Callable, Iterable, NamedTuple
 
 from e1gw_common.lines import State
 from .events import CodecGiven, Tell, Warned
-from .trunk import TrunkLink
+from .trunk import FollowedTrunk, TrunkLink
 
 
 class Coding(NamedTuple):
@@ -54,17 +54,17 @@ class CodecChanges:
         self._heard: list[str | None] = []      # the other site's codec, once it is connected
         self._circuits: dict[int, CircuitCoding] = {}
 
-    def begin(self, status: dict[str, Any]) -> None:
+    def begin(self, status: FollowedTrunk) -> None:
         """Takes the circuits of the trunk, and warns if they cannot have the codec asked for."""
         if self._asked is None:
             return
-        self._circuits = {row['circuit']: CircuitCoding(Coding(row['configured_codec'], row['configured_payload']),
-                                                        Coding(row['codec'], row['payload']))
-                          for row in status['circuits']}
+        self._circuits = {line.circuit: CircuitCoding(Coding(line.configured_codec, line.configured_payload),
+                                                      Coding(line.codec, line.payload))
+                          for line in (row.line for row in status.circuits)}
         fixed = [str(n) for n, each in self._circuits.items()
                  if each.configured.codec != self._asked and each.configured.payload not in DYNAMIC]
         self.own = None
-        if LAWS.get(status['law']) != self._asked:
+        if LAWS.get(status.law) != self._asked:
             self._warn(f'{self._asked} does not match the law of this trunk')
         elif fixed:
             self._warn(f'the payload type of circuits {", ".join(fixed)} is not in 96 to 127')
@@ -82,11 +82,11 @@ class CodecChanges:
                 self._warn(f'the other site has --until-answer {far}' if far else
                            'the other site has no --until-answer')
 
-    def on_status_row(self, row: dict[str, Any]) -> None:
-        """Takes a circuit's row of the status."""
-        circuit = self._circuits.get(row['circuit'])
+    def on_codec(self, n: int, coding: Coding) -> None:
+        """Takes the codec that a circuit has."""
+        circuit = self._circuits.get(n)
         if circuit and not circuit.is_changing:
-            circuit.present = Coding(row['codec'], row['payload'])
+            circuit.present = coding
 
     def give(self, n: int, state: State) -> None:
         """Gives a circuit in this state the codec that it needs; none before the other site is connected."""

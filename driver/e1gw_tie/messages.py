@@ -48,7 +48,7 @@ def encode_message(message: Message) -> bytes:
     """The line of a message. (A change of a site is that of one circuit, or of its service.)"""
     match message:
         case None:
-            plain: dict[str, Any] = {'alive': True}
+            plain: dict[str, object] = {'alive': True}
         case Greeting(run, pairs):
             plain = {'tie': VERSION, 'run': run, 'pairs': pairs}
         case SiteState(dark, ends, codec, all=True):

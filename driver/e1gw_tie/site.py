@@ -6,7 +6,7 @@ import ipaddress
 import os
 import ssl
 from collections import Counter
-from typing import TYPE_CHECKING, Any, Mapping, TypeVar
+from typing import TYPE_CHECKING, Any, Collection, Mapping, TypeVar
 
 from e1gw_common.faults import words_of_fault
 from .events import NoConnection
@@ -29,9 +29,8 @@ class SiteRefused(Exception):
     """A refused connection; the words say why."""
 
 
-def has_name(certificate: dict[str, Any] | None, name: str) -> bool:
-    """Whether a certificate names that host or address."""
-    names = certificate.get('subjectAltName', ()) if certificate else ()
+def has_name(names: Collection[tuple[str, str]], name: str) -> bool:
+    """Whether a certificate with these names has that of a host or its address."""
     try:
         wanted = ipaddress.ip_address(name)
         return wanted in [ipaddress.ip_address(text.strip()) for kind, text in names if kind == 'IP Address']
@@ -98,11 +97,12 @@ class Site:
         host, port = self.place
         if self.listens:
             await (await asyncio.start_server(self._accept, host, port, limit=MOST, backlog=STRANGERS)).serve_forever()
-        more: dict[str, Any] = {'ssl': self.context, 'server_hostname': self.name or host} if self.context else {}
+        name = (self.name or host) if self.context else None
         while True:
             try:
                 async with asyncio.timeout(HANDSHAKE):
-                    streams = await asyncio.open_connection(host, port, limit=MOST, **more)
+                    streams = await asyncio.open_connection(host, port, limit=MOST, ssl=self.context,
+                                                            server_hostname=name)
                 await self._run_connection(*streams)
             except ssl.SSLError as fault:
                 self.turned_away(str(fault))
@@ -153,7 +153,7 @@ class Site:
         if self.listens and self.context:
             # (Not by the server, so that those in the handshake are counted; and before an octet is read.)
             await writer.start_tls(self.context)
-            if self.name and not has_name(writer.get_extra_info('peercert'), self.name):
+            if self.name and not has_name(names_of(writer), self.name):
                 raise SiteRefused(f'its certificate is not that of {self.name}')
         writer.write(encode_message(self._tie.own_greeting))
         try:
@@ -186,6 +186,11 @@ class Site:
         if self._writer is writer:
             self.send(None)
             asyncio.get_running_loop().call_later(ALIVE, self._send_keepalives, writer)
+
+
+def names_of(writer: asyncio.StreamWriter) -> Collection[tuple[str, str]]:
+    """Those of the other end's certificate."""
+    return tuple((writer.get_extra_info('peercert') or {}).get('subjectAltName', ()))
 
 
 def address_of(writer: asyncio.StreamWriter) -> str:

@@ -5,18 +5,17 @@ import asyncio
 import time
 from collections import Counter
 from dataclasses import dataclass, replace
-from typing import Any
 
 from e1gw_common.lines import IN_CALL, Role, State
 from e1gw_common.session import Command
 from .circuit import NO_CALL, CircuitEnd, LinkState, TieCircuit, start_circuit, call_name
-from .coding import CodecChanges
+from .coding import CodecChanges, Coding
 from .events import (CallOver, CommandAnswered, Dark, Light, LinkChanged, ReleaseStuck, SiteCame, SiteGone, Tell,
                      TrunkFollowed, Warned)
 from .messages import Greeting, Message, SiteState
 from .pairs import Pairs, agreed
 from .site import Site
-from .trunk import Told, TrunkLink
+from .trunk import CodecTold, DarkTold, FollowedTrunk, StateTold, Told, TrunkLink
 
 STUCK = 2.0                 # seconds of a release that the exchange ignores
 ANSWER_LASTS = 0.1          # seconds of an answer at least, so that the exchange recognises it
@@ -32,12 +31,6 @@ class TieOptions:
     hold: float
     waits: bool             # no false answer reports congestion
     until_answer: str | None = None     # the codec of each call until it is answered
-
-
-def is_out_of_service(status: dict[str, Any]) -> bool:
-    """Whether a trunk carries no calls: there are no octets of it, or there is an alarm."""
-    return (not status['trunk_up'] or bool(status['clock']['stalled'])
-            or any(status['alarm'].values()) or any(status['remote_alarm'].values()))
 
 
 class Tie:
@@ -70,15 +63,15 @@ class Tie:
     def on_trunk_lost(self) -> None:
         self._set_out_of_service(True)
 
-    def begin(self, status: dict[str, Any]) -> None:
+    def begin(self, status: FollowedTrunk) -> None:
         """Takes all circuits from the trunk, with what is remembered of their calls."""
-        self._life = status['life']
-        for row in status['circuits']:
-            n, role, state = row['circuit'], Role(row['role']), State(row['state'])
-            self._seizures[n] = row['seizures']
+        self._life = status.life or ''
+        for row in status.circuits:
+            n, role, kept = row.line.circuit, row.line.role, row.blocked is not None
+            self._seizures[n] = row.line.seizures
             known = self.circuits.get(n)
             call = call_name(self._life, self._seizures[n]) if role is Role.INCOMING else known.call if known else None
-            self.circuits[n] = start_circuit(known, TieCircuit(role, state, call, kept=row.get('blocked') is not None))
+            self.circuits[n] = start_circuit(known, TieCircuit(role, row.line.state, call, kept=kept))
         states = Counter(str(circuit.state) for circuit in self.circuits.values())
         self.tell(TrunkFollowed(dict(sorted(states.items()))))
         self.codecs.begin(status)
@@ -86,19 +79,19 @@ class Tie:
         self.on_status(status)
         self._send_all()
 
-    def on_status(self, status: dict[str, Any]) -> None:
+    def on_status(self, status: FollowedTrunk) -> None:
         """Takes the status of the trunk, makes up for missed events, and finds releases that are not followed."""
-        self._set_out_of_service(is_out_of_service(status))
-        for row in status['circuits']:
-            n = row['circuit']
-            self.codecs.on_status_row(row)
-            self._set_circuit(n, replace(self.circuits[n], kept=row.get('blocked') is not None))
+        self._set_out_of_service(status.is_out_of_service())
+        for row in status.circuits:
+            line, n = row.line, row.line.circuit
+            self.codecs.on_codec(n, Coding(line.codec, line.payload))
+            self._set_circuit(n, replace(self.circuits[n], kept=row.blocked is not None))
             if n not in self._busy:
-                circuit, state, self._seizures[n] = self.circuits[n], State(row['state']), row['seizures']
+                circuit, state, self._seizures[n] = self.circuits[n], line.state, line.seizures
                 call = call_name(self._life, self._seizures[n]) if circuit.role is Role.INCOMING else circuit.call
                 if state is not circuit.state or call != circuit.call:
                     circuit = circuit.with_state(state, None if call == circuit.call else call)
-                if state is State.RELEASING and row['for'] >= STUCK and not circuit.stuck:
+                if state is State.RELEASING and line.for_ >= STUCK and not circuit.stuck:
                     circuit = replace(circuit, stuck=True)
                     self.tell(ReleaseStuck(n))
                 self._set_circuit(n, circuit)
@@ -106,12 +99,12 @@ class Tie:
     def on_event(self, event: Told) -> None:
         """Takes an event of the trunk."""
         match event:
-            case {'event': 'state', 'circuit': n, 'was': was, 'state': state}:
-                self._set_state(n, State(was), State(state))
-            case {'event': 'codec', 'circuit': n}:
-                self.codecs.on_status_row(event)
+            case StateTold(n, was, state):
+                self._set_state(n, was, state)
+            case CodecTold(n, codec, payload):
+                self.codecs.on_codec(n, Coding(codec, payload))
                 self._update_circuit(n)
-            case {'event': 'alarm' | 'remote alarm', 'on': True} | {'event': 'trunk lost' | 'stalled'}:
+            case DarkTold():
                 self._set_out_of_service(True)
 
     def _set_state(self, n: int, was: State, state: State) -> None:

@@ -4,11 +4,13 @@ from __future__ import annotations
 import asyncio
 import json
 from collections import deque
-from typing import TYPE_CHECKING, Any
+from dataclasses import dataclass
+from typing import TYPE_CHECKING, Mapping
 
 from e1gw_common.answers import CommandAnswer, answer_in, refused
 from e1gw_common.faults import words_of_fault
-from e1gw_common.lines import UNKNOWN
+from e1gw_common.lines import Alignment, LineStatus, State
+from e1gw_common.plain import flat, typed
 from e1gw_common.tasks import Tasks
 from .events import TrunkGone, Warned
 
@@ -20,7 +22,64 @@ SOON = 0.1                  # seconds until a connection is retried
 MOST = 1 << 20              # octets of a line
 PATIENCE = 2.0              # seconds for an answer
 ALIVE = 2.0                 # seconds without a look after which this program counts as gone
-Told = dict[str, Any]        # an event of the trunk
+
+
+@dataclass(frozen=True)
+class TrunkFlow:
+    stalled: bool
+
+
+@dataclass(frozen=True, kw_only=True)
+class TrunkCircuit:
+    line: LineStatus = flat()
+    blocked: str | None = None          # how far its block by the operator is
+
+
+@dataclass(frozen=True)
+class FollowedTrunk:
+    """What a tie needs of the status of a trunk, e1gw-watch(1)."""
+
+    life: str | None
+    law: str
+    trunk_up: bool
+    clock: TrunkFlow
+    alarm: Mapping[Alignment, bool]
+    remote_alarm: Mapping[Alignment, bool]
+    circuits: tuple[TrunkCircuit, ...]
+
+    def is_out_of_service(self) -> bool:
+        """Whether it carries no calls: there are no octets of it, or there is an alarm."""
+        return (not self.trunk_up or self.clock.stalled or any(self.alarm.values())
+                or any(self.remote_alarm.values()))
+
+    def is_known(self) -> bool:
+        """Whether it was told the states of its circuits, and how often each was seized."""
+        return self.life is not None and all(row.line.state is not State.UNKNOWN for row in self.circuits)
+
+
+@dataclass(frozen=True)
+class StateTold:
+    circuit: int
+    was: State
+    state: State
+
+
+@dataclass(frozen=True)
+class CodecTold:
+    circuit: int
+    codec: str
+    payload: int
+
+
+class DarkTold:
+    """The trunk carries no calls."""
+
+
+class OtherTold:
+    """What a tie need not know."""
+
+
+Told = StateTold | CodecTold | DarkTold | OtherTold        # by an event of the trunk
 
 
 class TrunkLink:
@@ -43,7 +102,7 @@ class TrunkLink:
                 async with asyncio.TaskGroup() as group:
                     group.create_task(self._read(reader))
                     await self._poll()
-            except* (OSError, EOFError, ValueError, KeyError, TypeError) as faults:
+            except* (OSError, EOFError, ValueError) as faults:
                 fault = faults.exceptions[0]
                 why = words_of_fault(fault, self._path) or type(fault).__name__
             finally:
@@ -65,10 +124,10 @@ class TrunkLink:
         if not (answer and answer.is_done):
             self._tell(Warned('the trunk clears no calls if this program dies', answer=said))
         while True:
-            status = json.loads(await self.ask('status json'))
+            status = typed(FollowedTrunk, json.loads(await self.ask('status json')))
             if self.is_up:
                 self._tie.on_status(status)
-            elif status['life'] is not None and is_known(status):       # also how often each line was seized
+            elif status.is_known():
                 self.is_up = True
                 self._tie.begin(status)
             await asyncio.sleep(LOOK if self.is_up else SOON)
@@ -79,7 +138,7 @@ class TrunkLink:
         try:
             while octets := await reader.readline():
                 line = octets.decode(errors='replace').rstrip('\n')
-                if (event := event_of(line)) is not None:
+                if (event := told_by(line)) is not None:
                     if self.is_up:
                         self._tie.on_event(event)
                 elif line:
@@ -121,15 +180,19 @@ class TrunkLink:
         return answer_in([said]) or refused(said)
 
 
-def is_known(status: dict[str, Any]) -> bool:
-    """Whether a trunk was told the states of its circuits."""
-    return all(row['state'] != UNKNOWN for row in status['circuits'])
-
-
-def event_of(line: str) -> Told | None:
-    """The event of a line, or None if it belongs to an answer."""
+def told_by(line: str) -> Told | None:
+    """What the event of a line tells; None if that belongs to an answer. ValueError if it is of another kind."""
     try:
         fields = json.loads(line) if line.startswith('{') else None
     except ValueError:
         return None
-    return fields if isinstance(fields, dict) and isinstance(fields.get('event'), str) else None
+    match fields:
+        case {'event': 'state'}:
+            return typed(StateTold, fields)
+        case {'event': 'codec'}:
+            return typed(CodecTold, fields)
+        case {'event': 'alarm' | 'remote alarm', 'on': True} | {'event': 'trunk lost' | 'stalled'}:
+            return DarkTold()
+        case {'event': str()}:
+            return OtherTold()
+    return None

@@ -26,7 +26,7 @@ from e1gw_common.lines import IN_CALL, Role, State
 from e1gw.log_folder import LogPair, LogWriter
 from e1gw.watcher import reader as readers, tell_client as statuses, trunk as trunks
 from e1gw.watcher.reader import ReadingNote
-from e1gw.watcher.tell_client import TrunkStatus
+from e1gw.watcher.tell_client import TellClient
 from e1gw_common.session import CIRCUITS, MULTIFRAME, Command, trunk_record
 from e1gw_common.writers import put_file
 
@@ -182,7 +182,7 @@ class BilledTrunk:
         self.log, self.places = LogWriter(self.path('log')), [0]
         self.unlogged = b''             # of it, which nobody looks at yet
         self.pids, self.program = iter(range(1, 1000)), Program(0, 0, lives=False)
-        self.status: TrunkStatus | None = None
+        self.status: TellClient | None = None
         self.waiting, self.left = list[str](), FAR  # lines that are not written; writes before the service is killed
         self.connected: Program | None = None
         self.end = LONG - 4 * LOOK                  # up to where something may die
@@ -204,7 +204,7 @@ class BilledTrunk:
         self.trunk = PlainTrunk(reader, self.folder, 'config')
         read, begun, note = pickle.loads(self.kept) if self.kept else (ReadingNote(), 0, None)
         reader.take_up(read, None)
-        self.status = status = TrunkStatus(self.trunk, 'west', self.tells, DatagramCounts(), self.waiting.append)
+        self.status = status = TellClient(self.trunk, 'west', self.tells, DatagramCounts(), self.waiting.append)
         status.waiting, status.changed = lambda: [*self.waiting], self.note
         if note:
             status.take_up(note)

@@ -22,7 +22,9 @@ from e1gw.ctl_all import TrunkLine
 from e1gw_tools.far_exchange import IDLE, SEIZED
 from e1gw_common.answers import DONE, AnswerWord, CommandAnswer, refused
 from e1gw_common.lines import IN_CALL, Line, Role, State
+from e1gw_common.plain import typed
 from e1gw.metrics import exposition
+from e1gw.status import TrunkStatus
 from e1gw.watcher.blocks import BY_OPERATOR, BlockWatch, BlockedCircuits, KeptBlocks
 from e1gw_common.session import Command, CommandRefusal
 
@@ -265,9 +267,9 @@ class BlockedTrunkTests(unittest.TestCase):
             ('idle', None)])
         words = 'blocked by the operator: 3-4; blocking, until their calls have ended: 1-2'
         self.assertIn(f'\n{words}\n', world.ask('status'))
-        self.assertTrue(TrunkLine.from_status('west', world.told()).state.endswith(f'; {words}'))
+        self.assertTrue(TrunkLine.from_status('west', typed(TrunkStatus, world.told())).state.endswith(f'; {words}'))
         self.assertTrue(world.ask('status 3').endswith('\nblocked by the operator: 3'))
-        self.assertIn('e1gw_circuit_blocked{circuit="1"} 1\n', exposition(world.told()))
+        self.assertIn('e1gw_circuit_blocked{circuit="1"} 1\n', exposition(typed(TrunkStatus, world.told())))
         self.assertEqual(json.loads(support.text_of(world.path('state.blocked'))), [1, 2, 3, 4])
         events = world.follow()
         self.addCleanup(events.close)

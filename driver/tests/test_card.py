@@ -16,6 +16,7 @@ from e1gw.dahdi import (BUFFERS, NUMBER, PARAMETERS, SPAN, Alarm, Blocks, CardFa
                         channel_facts, span_facts)
 from e1gw.events import Event
 from e1gw_common.fault_words import name_of_process
+from e1gw_common.plain import plain_of
 from e1gw.watcher.card import CardWatch
 
 
@@ -206,21 +207,21 @@ class CardWatchTests(unittest.TestCase):
     def test_status(self) -> None:
         """Nothing of what is no card, nor of one whose driver does not say it."""
         watch = self.watch()
-        self.assertEqual(watch.status(), {})
+        self.assertIsNone(watch.status())
         self.span = replace(self.span, alarms=Alarm.RED, counts=self.span.counts | {'errored_seconds': 7})
         watch.look(3)
-        self.assertEqual({name: n for name, n in watch.status().items() if n},
+        self.assertEqual({name: n for name, n in plain_of(watch.status()).items() if n},
                          {'span': 3, 'red': 1, 'errored_seconds': 7})
         self.fault = errno.ENODEV
         with self.assertLogs('e1gw.watcher.card') as logs:
             for _ in range(3):
                 watch.look(3)
-        self.assertEqual((len(logs.records), watch.status(), watch.outage()), (1, {}, None))
+        self.assertEqual((len(logs.records), watch.status(), watch.outage()), (1, None, None))
         self.fault = 0
         watch.look(3)
-        self.assertEqual(watch.status()['span'], 3)
+        self.assertEqual(plain_of(watch.status())['span'], 3)
         watch.look(0)
-        self.assertEqual(watch.status(), {})
+        self.assertIsNone(watch.status())
 
     def test_what_the_driver_is_asked(self) -> None:
         """The number of the span is the first of its octets (struct dahdi_spaninfo)."""

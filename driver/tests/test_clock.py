@@ -77,8 +77,8 @@ class ClockTests(unittest.TestCase):
                 self.assertEqual([finding.what for finding in trunk.found], words)
                 lost = round(sum(each.value for each in trunk.found if each.what == 'gap'), 3)
                 status = trunk.clock.status()
-                self.assertEqual((status['gaps'], status['gap_seconds']), (words.count('gap'), lost))
-                self.assertEqual(status['ppm'] is None, trunk.now < 1059)       # (there is no rate of less)
+                self.assertEqual((status.gaps, status.gap_seconds), (words.count('gap'), lost))
+                self.assertEqual(status.ppm is None, trunk.now < 1059)       # (there is no rate of less)
                 if name == 'lost octets':
                     self.assertAlmostEqual(trunk.found[0].value, 0.5, delta=0.03)
 
@@ -89,9 +89,9 @@ class ClockTests(unittest.TestCase):
             trunk.go(130 if words == [] else 70, 1 + ppm / 1e6)
             with self.subTest(ppm):
                 self.assertEqual([finding.what for finding in trunk.found], words)
-                self.assertFalse(trunk.clock.status()['rate_wrong'])
+                self.assertFalse(trunk.clock.status().rate_wrong)
                 self.assertAlmostEqual(trunk.clock.ppm or 0.0, ppm, delta=20 if words else 5)
-                self.assertEqual(trunk.clock.status()['ppm'], round(trunk.clock.ppm or 0.0, 1))
+                self.assertEqual(trunk.clock.status().ppm, round(trunk.clock.ppm or 0.0, 1))
                 for finding in trunk.found:
                     self.assertAlmostEqual(finding.value, -500, delta=20)
 
@@ -125,7 +125,7 @@ class ClockTests(unittest.TestCase):
                 self.assertEqual([each.what for each in found], WRONG_AND_RIGHT[:len(ratios)])
                 self.assertEqual([round(each.value, 2) for each in found], [round(each, 2) for each in ratios])
                 if len(ratios) != 1:
-                    self.assertAlmostEqual(trunk.clock.status()['rate'] or 1.0, 1.0, delta=0.0002)
+                    self.assertAlmostEqual(trunk.clock.status().rate or 1.0, 1.0, delta=0.0002)
 
 
 class ClockPropertyTests(PropertyCase):

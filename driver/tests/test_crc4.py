@@ -5,7 +5,7 @@ import unittest
 
 from e1gw import crc4
 from e1gw.crc4 import Crc4, counts_in
-from e1gw.slots import Slots
+from e1gw.slots import Slots, SlotsStatus
 
 LOST, FOUND = 'slot 16 lost: what comes is silent', 'slot 16 found, speech goes on'
 MOVED = 'slots moved by {}: slot 16 found again, speech goes on'
@@ -69,13 +69,13 @@ class SlotsTests(unittest.TestCase):
         known = Slots()
         for other in 'slots', 'slots found', 'slots found x', 'slots lost 3', 'slot found 3', 'live slots lost':
             self.assertEqual(self.told(known, other), [])
-        self.assertTrue(known.status()['silent'])
+        self.assertTrue(known.status().silent)
         self.assertEqual(self.told(known, 'slots found 30', 'slots lost', 'slots found 30'), [FOUND, LOST, FOUND])
-        self.assertFalse(known.status()['silent'])
+        self.assertFalse(known.status().silent)
         known.follows()
-        self.assertTrue(known.status()['silent'])
+        self.assertTrue(known.status().silent)
         later = Slots()
         later.take_up(known.note())
         for n, by in (2, 3), (0, 29):
             self.assertEqual(self.told(later, f'slots found {n}'), [MOVED.format(by)])
-        self.assertEqual(later.status(), {'slots': 'clear', 'silent': False, 'slots_lost': 1, 'slots_moved': 2})
+        self.assertEqual(later.status(), SlotsStatus('clear', False, 1, 2))

@@ -21,7 +21,9 @@ from .limits import LONG
 from .test_texts import STATUS
 from e1gw import ctl, ctl_all
 from e1gw_common.call_lines import FIELDS, CallLine, csv_line
+from e1gw_common.plain import typed
 from e1gw.outages import FIELDS as FIELDS_OF_OUTAGES
+from e1gw.status import TrunkStatus
 
 
 class CtlWordTests(unittest.TestCase):
@@ -342,7 +344,7 @@ class CtlOwnCommandTests(CtlAnswerCase):
         self.trunks['east'].answers['status json'] = '[]\n\n'
         self.assertEqual(self.ctl(), (1, [
             ctl_all.HEAD, f'east         does not answer: {self.trunks["east"].path}: its answer is no status',
-            str(ctl_all.TrunkLine.from_status('west', STATUS)),
+            str(ctl_all.TrunkLine.from_status('west', typed(TrunkStatus, STATUS))),
             'north        not in service: systemctl status e1gw-trunk@north'], ''))
         self.trunks['east'].answers = self.trunks['west'].answers
         self.assertEqual(self.ctl()[0], 0)

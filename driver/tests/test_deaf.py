@@ -98,11 +98,9 @@ class DeafTrunkCase(TrunkWatchCase):
 class DeafTrunkTests(DeafTrunkCase):
     async def test_where_it_is_shown(self) -> None:
         found = await self.deaf()
-        status = found._values() | {'crc4': None, 'transport': {}}
+        status = found.known()
         words = 'hears nothing: 5 (no packets), 7 (PayloadType)'
-        for each in status['circuits']:
-            each['socket'] = None
-        self.assertEqual({each['circuit']: each['deaf'] for each in status['circuits'] if each['deaf']},
+        self.assertEqual({row.line.circuit: row.deaf for row in status.circuits if row.deaf},
                          {5: 'no packets', 7: 'PayloadType'})
         self.assertIn(f'\n{words}\n', table(status))
         self.assertTrue(circuit_table(status, 7).endswith('  9 PayloadType; hears nothing: PayloadType'))

@@ -2,15 +2,18 @@
 from __future__ import annotations
 
 import unittest
-from typing import Any, Iterable
+from typing import Iterable
 from unittest import mock
 
 from .picture_made import coded, packets, rtp
 from .test_deaf import DeafTrunkCase
+from e1gw.counts import PacketStatus
 from e1gw.deaf import words_of_rows
 from e1gw.heard_speech import EACH_TWICE, FIRST, HeardSpeech
+from e1gw.status import CircuitStatus
 from e1gw.watcher.page import body_of, parts_of
 from e1gw_common.g711 import OTHER
+from e1gw_common.lines import LineStatus
 from e1gw_common.session import datagram_record
 
 SECOND, STEP = 50, 160              # packets and samples of 20 ms
@@ -67,10 +70,9 @@ class HeardSpeechTests(unittest.TestCase):
         self.assertEqual(found.why_wrong(), '')
 
     def test_words(self) -> None:
-        rows: list[dict[str, Any]] = [
-            {'circuit': 1, 'deaf': None, 'speech': 'x'}, {'circuit': 2, 'deaf': 'Late', 'speech': 'x'},
-            {'circuit': 3, 'deaf': None, 'speech': None}, {'circuit': 4, 'deaf': 'Late'},
-            {'circuit': 5, 'speech': 'x'}, {'circuit': 6, 'speech': 'y'}]
+        rows = [CircuitStatus(line=LineStatus(n), packets=PacketStatus(speech=speech), deaf=deaf)
+                for n, (deaf, speech) in enumerate([(None, 'x'), ('Late', 'x'), (None, None), ('Late', None),
+                                                    (None, 'x'), (None, 'y')], 1)]
         self.assertEqual(words_of_rows(rows), 'sounds wrong: 1, 5 (x), 6 (y); hears nothing: 2, 4 (Late)')
 
 
@@ -81,8 +83,8 @@ class HeardTrunkTests(DeafTrunkCase):
         for n, payload in enumerate([*packets(coded('mu', 3.0, 0.1))]):
             found.counts.take_records(b''.join(datagram_record(each, rtp(n, STEP * n, 7, payload=payload))
                                                for each in (3, 4)))
-        status = found._values() | {'crc4': None, 'transport': {}}
-        self.assertEqual({each['circuit']: each['speech'] for each in status['circuits'] if each['speech']},
+        status = found.known()
+        self.assertEqual({row.line.circuit: row.packets.speech for row in status.circuits if row.packets.speech},
                          {3: 'reads like mu-law'})
         tile = body_of('c', parts_of(status, mock.Mock(events=(), ended=()))['c3'])
         self.assertIn('data-s="answered, sounds wrong: reads like mu-law"', tile)

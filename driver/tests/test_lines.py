@@ -8,12 +8,13 @@ from typing import Any
 from .properties import PropertyCase
 from e1gw_common.lines import (IN_CALL, OPEN, PAIRS, SEIZURE_WAIT, WAIT, Line, Role, State, config_text, law_of,
                                lines_of, no_peer, no_peers, tables_of, wait_words, with_wait)
+from e1gw_common.plain import plain_of
 from e1gw_common.session import Command
 
 
 class LineTests(unittest.TestCase):
     def test_a_new_one(self) -> None:
-        self.assertEqual(Line(3).status(2.0), {
+        self.assertEqual(plain_of(Line(3).status(2.0)), {
             'circuit': 3, 'role': 'outgoing', 'state': 'fault', 'sent': '--', 'recognised': '--', 'for': 2.0,
             'seizures': 0, 'answers': 0, 'unacknowledged': 0, 'faults': 0, 'open': 0.0, 'codec': 'pcma', 'payload': 8,
             'configured_codec': 'pcma', 'configured_payload': 8, 'prefill': 0, 'jitter_buffer_ms': 0.0})
@@ -30,21 +31,22 @@ class LineTests(unittest.TestCase):
             line.changed(before, now)
         self.assertEqual((line.seizures, line.answers, line.faults, line.since, line.opened, line.open_for),
                          (1, 4, 1, 7.0, None, 4.0))
-        self.assertEqual({key: line.status(9.25)[key] for key in ('for', 'open', 'state', 'role', 'sent')},
-                         {'for': 2.25, 'open': 4.0, 'state': 'fault', 'role': 'outgoing', 'sent': '--'})
+        its = line.status(9.25)
+        self.assertEqual((its.for_, its.open, its.state, its.role, its.sent),
+                         (2.25, 4.0, State.FAULT, Role.OUTGOING, '--'))
 
     def test_an_incoming_call(self) -> None:
         """Seizures are the exchange's. What was before the state of the begin is not known."""
         line = Line(3, Role.INCOMING, prefill=320)
         line.begin(State.ACKED, 1.0)
         found = line.status(2.5)
-        self.assertEqual((line.opened, found['open'], found['jitter_buffer_ms']), (1.0, 1.5, 40.0))
+        self.assertEqual((line.opened, found.open, found.jitter_buffer_ms), (1.0, 1.5, 40.0))
         for now, (before, line.state) in enumerate(((State.ACKED, State.IDLE), (State.IDLE, State.ACKED),
                                                     (State.ACKED, State.ANSWERED)), 2):
             line.changed(before, now)
         self.assertEqual((line.seizures, line.answers, line.opened, line.open_for), (1, 0, 3, 1.0))
         line.sent, line.recognised = 0, 3
-        self.assertEqual((line.status(2.5)['sent'], line.status(2.5)['recognised'], PAIRS[1], PAIRS[2]),
+        self.assertEqual((line.status(2.5).sent, line.status(2.5).recognised, PAIRS[1], PAIRS[2]),
                          ('00', '11', '01', '10'))
         line.begin(State.IDLE, 8.0)
         self.assertEqual((line.opened, line.since), (None, 8.0))

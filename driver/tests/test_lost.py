@@ -25,6 +25,8 @@ from e1gw.call_sums import sums_of
 from e1gw.ctl_all import TrunkLine
 from e1gw_common.frames import FrameSearch
 from e1gw_common.lost import AHEAD, IN_A_ROW, WINDOW, ReceivedNumbers
+from e1gw_common.plain import typed
+from e1gw.status import TrunkStatus
 from e1gw_picture.facts import Cell
 from e1gw_common.session import CIRCUITS, FRAME, Command, Kind, datagram_record, name_of, records_in
 from e1gw_testing.ports import free_port, free_ports
@@ -357,7 +359,7 @@ class ShownFigureTests(unittest.TestCase):
                  'calls': {int(each['circuit']): of_line(CallLine(**each)) for each in status['calls']},
                  'page': {n: {'lost': int(cells[f'c{n}'][0][5]), **cause_of(cells[f'c{n}'][0][7])} for n in FAULTS},
                  'metrics': {n: metric_figures(metrics, n) for n in FAULTS}}
-        self.assertEqual(TrunkLine.from_status('west', status).lost,
+        self.assertEqual(TrunkLine.from_status('west', typed(TrunkStatus, status)).lost,
                          str(sum(each['lost'] for each in found['status'].values())))
         for n, (_, causes) in FAULTS.items():
             self.assertEqual({*status['circuits'][n - 1]['datagrams']} - {'sent', 'admitted'}, causes, n)

@@ -9,6 +9,7 @@ import json
 import socket
 import unittest
 import urllib.request
+from dataclasses import replace
 from typing import Any
 from unittest import mock
 
@@ -20,11 +21,14 @@ from .test_trunk import FOUR, aligned, call
 from .world import World, config_of
 from e1gw_common.call_lines import CallLine, csv_line
 from e1gw.ctl_all import TrunkHere, TrunkLine
-from e1gw.events import (AlarmChanged, CardAlarm, CardAlarmChanged, Connected, Crc4Change, Crc4Changed, Disconnected,
-                         Event, Fed, Flows, LineChanged, NotFed, ReadEvents, RemoteAlarmChanged, Slip, SlotsChange,
-                         SlotsChanged, Stalled, TrunkLost, TrunkOpened, WrongRate)
-from e1gw_common.lines import Alignment, Line, Role, State
+from e1gw.events import (AlarmChanged, BlockNews, CardAlarm, CardAlarmChanged, Connected, Crc4Change, Crc4Changed,
+                         Disconnected, Event, Fed, Flows, LineChanged, NotFed, ReadEvents, RemoteAlarmChanged, Slip,
+                         SlotsChange, SlotsChanged, Stalled, TrunkLost, TrunkOpened, WrongRate)
+from e1gw_common.lines import Alignment, Line, LineStatus, Role, State
 from e1gw.metrics import NOT_OPEN, head_of
+from e1gw.satop import SatopStatus
+from e1gw.status import (CircuitStatus, MachineRole, PairStatus, ToldStatus, TransportStatus, TrunkFiles,
+                         TrunkStatus)
 from e1gw.watcher import http_pages
 from e1gw.watcher.options import kept_of
 from e1gw.watcher.page import (POLICY, Look, Parts, ShownRow, circuit_row, ended_row, length, message_of, page_of,
@@ -36,10 +40,7 @@ from e1gw.udp_tables import sockets_of
 from e1gw_testing.waits import turns
 
 EVIL = '"><script>alert(1)</script><img src=x onerror=alert(1)>\'&</td></table>'
-WELL: dict[str, Any] = {
-    'name': 'west', 'version': '1', 'uptime': 1.0, 'time': 1.0, 'octets': 1, 'alarm': {}, 'remote_alarm': {},
-    'losses': {}, 'trunk_up': True, 'clock': {'stalled': False, 'stalls': 0}, 'circuits': [], 'ended': {},
-    'stale': False}
+WELL = TrunkStatus(name='west', version='1', uptime=1.0, time=1.0)
 BODIES = 'state', 'alarms', 'c1', 'c30', 'calls', 'events'
 
 
@@ -87,21 +88,24 @@ class PageTextTests(unittest.TestCase):
                                                 ('', '', '', ''), ('9850', '100', '0', 'poor'), ('0', '5', '', 'poor')):
             call = CallLine(*[''] * len(CallLine._fields))._replace(
                 circuit='7', received=received, lost=lost, discarded=discarded, ended='2026-11-29T10:01:05Z')
-            row = {'circuit': 7, 'state': 'acked', 'role': 'outgoing', 'for': 1.0, 'codec': 'pcma', 'payload': 8,
-                   'configured_codec': 'pcma', 'configured_payload': 8, 'jitter_ms': 0.0}
-            rows = ended_row(csv_line(call), None), circuit_row(WELL, row, {'7': call._asdict()})
+            row = CircuitStatus(line=LineStatus(7, Role.OUTGOING, State.ACKED, for_=1.0))
+            rows = ended_row(csv_line(call), None), circuit_row(replace(WELL, calls=(call,)), row)
             self.assertEqual([each.look for each in rows], [look, look], call)
         self.assertEqual(rows[1].cells[5:], ['5', '0.0', ''])
 
     def test_red_lines(self) -> None:
         """Those above the circuits, of what is wrong with the trunk now."""
         rows: tuple[tuple[dict[str, Any], list[int]], ...] = (
-            ({}, []), ({'fault': 'no card'}, [0, 1]), ({'fault': 'standby', 'role': 'standby', 'fed': True}, []),
-            ({'fault': 'standby', 'role': 'standby', 'fed': False}, [3]), ({'remote_alarm': {'frame': True}}, [1]),
-            ({'alarm': {'frame': True}}, [1]), ({'transport': {'satop': ''}}, []), ({'transport': {'satop': 'x'}}, [3]),
+            ({}, []), ({'fault': 'no card'}, [0, 1]),
+            ({'fault': 'standby', 'pair': PairStatus(MachineRole.STANDBY, True)}, []),
+            ({'fault': 'standby', 'pair': PairStatus(MachineRole.STANDBY, False)}, [3]),
+            ({'told': ToldStatus(remote_alarm={Alignment.FRAME: True})}, [1]),
+            ({'told': ToldStatus(alarm={Alignment.FRAME: True})}, [1]),
+            ({'transport': TransportStatus(satop=SatopStatus('', {}))}, []),
+            ({'transport': TransportStatus(satop=SatopStatus('x', {}))}, [3]),
             ({'stale': True}, [3]), ({'ended': {'json': 'x'}}, [3]), ({'senders': 'any'}, []))
         for more, red in rows:
-            lines = head_of(WELL | more)
+            lines = head_of(replace(WELL, **more))
             self.assertEqual([at for at, line in enumerate(lines) if line.is_bad], red, more)
 
     def test_how_long(self) -> None:
@@ -113,15 +117,15 @@ class PageTextTests(unittest.TestCase):
 
     def test_trunks(self) -> None:
         """A link leads to the host by which the reader has come, where the other trunk listens there too."""
-        row = {'circuit': 1, 'state': EVIL}
+        row = CircuitStatus(line=LineStatus(1), deaf=EVIL)
         for host, link in (('127.0.0.1', '//\0:9102/'), ('0.0.0.0', '//\0:9102/'), ('192.0.2.7', '//192.0.2.7:9102/'),
                            ('2001:db8::1', '//[2001:db8::1]:9102/'), ('"><b>', '//&quot;&gt;&lt;b&gt;:9102/')):
-            status: dict[str, Any] = {'http': [host, 9102], 'circuits': [row]}
+            status = TrunkStatus(files=TrunkFiles(http=(host, 9102)), circuits=(row,))
             text = trunks_page([TrunkHere(True, TrunkLine(EVIL, state=EVIL), status)], '127.0.0.1').decode()
             shown = ShownTables(text)
             self.assertIn(f'<a href="{link}">', text)
             self.assertEqual([shown.tags[each] for each in ('script', 'img', 'b', 'i')], [0, 0, 0, 1])
-        for more in None, {'http': None, 'circuits': [row]}:        # (of one without pages nothing is told)
+        for more in None, TrunkStatus(circuits=(row,)):        # (of one without pages nothing is told)
             text = trunks_page([TrunkHere(True, TrunkLine('a', state='secret'), more)], '').decode()
             self.assertEqual(('href' in text, 'secret' in text), (False, more is None))
 
@@ -129,12 +133,12 @@ class PageTextTests(unittest.TestCase):
         """A tile and a square say so, though the line of an outgoing one is idle. If the trunk is not open nothing is
         known of a line."""
         for fault, state, blocked, words in (
-                (None, 'idle', 'blocked', 'blocked'), (None, 'blocked', 'blocked', 'blocked'),
-                (None, 'answered', None, 'answered'), (None, 'fault', 'blocked', 'fault, blocked'),
-                (None, 'acked', 'blocking', 'acked, blocking'), ('x', 'idle', None, NOT_OPEN)):
-            row = {'circuit': 7, 'state': state, 'role': 'outgoing', 'blocked': blocked}
-            status: dict[str, Any] = {'fault': fault, 'http': ['', 9102], 'circuits': [row]}
-            self.assertEqual(circuit_row(status, row, {}).cells[:3], ['7', words, 'outgoing'])
+                (None, State.IDLE, BlockNews.BLOCKED, 'blocked'), (None, State.BLOCKED, BlockNews.BLOCKED, 'blocked'),
+                (None, State.ANSWERED, None, 'answered'), (None, State.FAULT, BlockNews.BLOCKED, 'fault, blocked'),
+                (None, State.ACKED, BlockNews.BLOCKING, 'acked, blocking'), ('x', State.IDLE, None, NOT_OPEN)):
+            row = CircuitStatus(line=LineStatus(7, Role.OUTGOING, state), blocked=blocked)
+            status = TrunkStatus(fault=fault, files=TrunkFiles(http=('', 9102)), circuits=(row,))
+            self.assertEqual(circuit_row(status, row).cells[:3], ['7', words, 'outgoing'])
             self.assertIn(f'data-s="{words}" title="7 {words}">',
                           trunk_row(TrunkHere(True, TrunkLine('a'), status), ''))
 
@@ -157,9 +161,10 @@ class PageTextTests(unittest.TestCase):
             events.take(AlarmChanged(multiframe, True, 0), 1.0)
             events.take(begin, 2.0)
             events.take(begin, 3.0)
-            self.assertEqual([each['time'] for each in events.alarms()], [1.0, 2.0][:2 if end else 1], begin)
+            alarms = events.active_alarms()
+            self.assertEqual([each.time for each in alarms.values()], [1.0, 2.0][:2 if end else 1], begin)
             events.take(end or seized, 4.0)
-            self.assertEqual([each['time'] for each in events.alarms()], [1.0], begin)
+            self.assertEqual([each.time for each in alarms.values()], [1.0], begin)
             self.assertEqual(len(events.last), 4 if end else 3)
 
     def test_where_a_call_is_found(self) -> None:
@@ -176,7 +181,7 @@ class PageServerTests(unittest.IsolatedAsyncioTestCase):
 
     async def asyncSetUp(self) -> None:
         texts = mock.Mock(parts={'c1': [ShownRow(['1', 'idle'])]}, table='rows', metrics='samples', json='{}',
-                          status={'name': 'west'})
+                          status=TrunkStatus(name='west'))
         pages_of = http_pages.TrunkServer(mock.AsyncMock(return_value=texts), '127.0.0.1', [])
         server = await asyncio.start_server(pages_of.on_connect, '127.0.0.1', 0)
         self.addCleanup(server.close)
@@ -276,14 +281,14 @@ class WebPartTests(unittest.IsolatedAsyncioTestCase):
         """A page stays the same until something is told. Then all that was told is taken first."""
         takes, time, now = mock.Mock(), mock.Mock(), [10.0]
         time.monotonic = lambda: now[0]
-        its = http_pages.TrunkPages(lambda: {'circuits': [], 'takes': takes.call_count}, takes, [], mock.Mock())
+        its = http_pages.TrunkPages(lambda: TrunkStatus(renewed=takes.call_count), takes, [], mock.Mock())
         rest = mock.AsyncMock(side_effect=lambda seconds: now.append(now.pop() + seconds))
         with mock.patch.multiple(http_pages, time=time, EVERY=0.25), \
                 mock.patch('e1gw.watcher.http_pages.asyncio.sleep', rest):
             for is_told, count in (False, 1), (False, 1), (True, 4):
                 if is_told:
                     its.changed()
-                self.assertEqual((await its.fresh()).status['takes'], count)
+                self.assertEqual((await its.fresh()).status.renewed, count)
 
     def test_a_socket_that_nobody_reads(self) -> None:
         """Octets wait there, and what has no room is dropped."""
@@ -293,7 +298,7 @@ class WebPartTests(unittest.IsolatedAsyncioTestCase):
                 line.sendto(bytes(1000), line.getsockname())
             found = sockets_of([Line(7, port=line.getsockname()[1]), Line(8)])
         self.assertEqual([*found], [7])
-        self.assertGreater(min(found[7].values()), 0)
+        self.assertGreater(min(found[7].waiting, found[7].dropped), 0)
 
     async def test_a_slow_picture(self) -> None:
         """It takes longer than somebody waits for it. One process draws, however many ask; they learn for how long it

@@ -224,7 +224,7 @@ class LogReaderTests(support.LoopCase):
         setattr(trunk, 'missed_reports', mock.AsyncMock(return_value=None))
         with support.listening(tell) as listener, mock.patch.object(tell_client, 'PATIENCE', 0.01, create=True), \
                 mock.patch.object(tell_client, 'REST', 0.001):
-            its = tell_client.TrunkStatus(trunk, 'west', lambda event: None, DatagramCounts(), lambda line: None)
+            its = tell_client.TellClient(trunk, 'west', lambda event: None, DatagramCounts(), lambda line: None)
             follows = asyncio.create_task(its.run())
             await asyncio.sleep(0)
             with listener.accept()[0] as line:

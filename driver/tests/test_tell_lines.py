@@ -10,6 +10,8 @@ from . import support
 from e1gw.counts import DatagramCounts
 from e1gw.events import Disconnected, Event, LineChanged
 from e1gw.watcher.tell_lines import BadTelling, TrunkState
+from e1gw_common.lines import State
+from e1gw_common.plain import plain_of
 from e1gw_common.session import DatagramRefusal
 from e1gw.watcher import tell_client
 from e1gw.watcher.trunk import TrunkFacts
@@ -58,7 +60,7 @@ class ToldTests(unittest.TestCase):
         self.take(BEGIN[0], f'at {place}', *alarms, *rows.values(), *counted, 'now')
 
     def circuit(self, number: int = 1) -> dict[str, Any]:
-        found: dict[str, Any] = self.told.status()['circuits'][number - 1] | self.counts.status(number)
+        found: dict[str, Any] = plain_of(self.told.rows()[number - 1])
         return found
 
     def hears(self, event: Event) -> None:
@@ -72,7 +74,7 @@ class ToldTests(unittest.TestCase):
     def test_a_whole_state_tells_no_change(self) -> None:
         self.assertEqual(self.events, [])
         self.assertEqual((self.told.law, self.told.place, self.told.outage()), ('A', 512, None))
-        self.assertEqual({row['state'] for row in self.told.status()['circuits']}, {'idle'})
+        self.assertEqual({row.line.state for row in self.told.rows()}, {State.IDLE})
         self.assertEqual(self.circuit()['jitter_buffer_ms'], 40)
         self.take('weather fine', '', 'end')            # (words of a later version)
         self.assertEqual(self.events, [])
@@ -80,7 +82,7 @@ class ToldTests(unittest.TestCase):
     def test_nothing_was_told_yet(self) -> None:
         """No circuit is in fault for that."""
         told = TrunkState({'law': 'A'}, self.hears, self.counts)
-        self.assertEqual({row['state'] for row in told.status()['circuits']}, {'unknown'})
+        self.assertEqual({row.line.state for row in told.rows()}, {State.UNKNOWN})
 
     def test_a_row_of_the_manual(self) -> None:
         self.take('line  1 outgoing idle        10 10        101        100          0 pcma      8')
@@ -133,7 +135,7 @@ class ToldTests(unittest.TestCase):
         self.assertEqual(self.told.outage(), 'no alignment')
         self.take('alarms 0 0 1 0')
         self.assertEqual(self.told.outage(), 'the other end has no alignment')
-        self.assertEqual(self.told.status()['losses'], {'frame': 1, 'multiframe': 1})
+        self.assertEqual(self.told.status().losses, {'frame': 1, 'multiframe': 1})
         self.assertEqual(self.names(), [
             ('lost', 'frame'), ('alarm', 'frame', True), ('lost', 'multiframe'), ('alarm', 'multiframe', True),
             ('aligned', 'frame'), ('alarm', 'frame', False), ('aligned', 'multiframe'), ('alarm', 'multiframe', False),
@@ -224,7 +226,7 @@ class ReportReadingTests(support.LoopCase):
             'session.return_value': '', 'start_octet.return_value': 0,
             'missed_reports': mock.AsyncMock(return_value=None), 'know_place': mock.AsyncMock()})
         with support.listening(tell) as listener, mock.patch.object(tell_client, 'REST', 0.001):
-            its = tell_client.TrunkStatus(trunk, 'west', events.append, DatagramCounts(), lambda line: None)
+            its = tell_client.TellClient(trunk, 'west', events.append, DatagramCounts(), lambda line: None)
             its.set_connected('control', True)
             follows = asyncio.create_task(its.run())
             await asyncio.sleep(0)

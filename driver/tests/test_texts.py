@@ -19,7 +19,9 @@ from e1gw.events import (AlarmChanged, BlockNews, Burst, CallsCleared, CardAlarm
                          SlotsChanged, LogLost, Stalled, TrunkLost, TrunkOpened, WatchEnded, WrongRate)
 from e1gw_common.faults import Parser, checked, named, number, options_words, words_of_fault, words_of_refusal
 from e1gw_common.lines import Alignment, Role, State
+from e1gw_common.plain import typed
 from e1gw_common.session import CommandRefusal
+from e1gw.status import TrunkStatus
 from e1gw_tie import status as tie_status
 from e1gw_tie.tie import Tie, TieOptions
 
@@ -42,8 +44,7 @@ STATUS: dict[str, Any] = {
     'commands': [{'command': 'seize', 'answer': 'done', 'count': 25}]}
 CRC4 = {'aligned': True, 'submultiframes': 31, 'errored': 32, 'far_end_errored': 33, 'multiframes_found': 34,
         'multiframes_lost': 35, 'given_up': 36}
-CARD = {'span': 2, 'red': True, 'yellow': False, 'blue': False, 'recovering': False, 'loopback': True,
-        'not_open': False, 'events': 37}
+CARD = {'span': 2, 'recovering': 0, 'loopback': 1, 'yellow': 0, 'red': 1, 'blue': 0, 'not_open': 0, 'bit_errors': 37}
 FULL = STATUS | {
     'alarm': {'frame': False, 'multiframe': True}, 'remote_alarm': {'frame': True, 'multiframe': True}, 'stale': True,
     'clock': {'stalled': False, 'stalls': 23, 'gaps': 26, 'gap_seconds': 27.26, 'ppm': -28.6, 'rate': 0.2038,
@@ -68,7 +69,13 @@ e1gw_trunk_gaps_total 26
 e1gw_trunk_rate_ratio 0.2038
 e1gw_trunk_rate_ppm -28.6
 e1gw_transport{what="span"} 2
-e1gw_transport{what="events"} 37
+e1gw_transport{what="recovering"} 0
+e1gw_transport{what="loopback"} 1
+e1gw_transport{what="yellow"} 0
+e1gw_transport{what="red"} 1
+e1gw_transport{what="blue"} 0
+e1gw_transport{what="not_open"} 0
+e1gw_transport{what="bit_errors"} 37
 e1gw_crc4_aligned 1
 e1gw_crc4_submultiframes_total 31
 e1gw_crc4_errored_total{end="this"} 32
@@ -102,7 +109,7 @@ TABLE = '''trunk west, e1gw 1.2, up 100 s, wrong rate 20.38 %
 2.0 s of the trunk at 00:01:40 UTC, loss of multiframe alignment; the other end: not heard
 alignment lost: frame 21, multiframe 22; stalls 23, slips 26 (27.3 s), rate -29 ppm
 two machines: the standby is not fed: its link; configured otherwise there: circuits 3, 4
-card: span 2, LOOPBACK, RED
+card: span 2, LOOPBACK, RED, bit errors 37
 CRC-4: multiframe alignment, lost 35, of it 36 for 915 errored of 1000; errored 32 of 31 submultiframes, the other end \
 reports 33
 ended: json: no room
@@ -112,6 +119,10 @@ the counts of packets are not those of now
   6 Late, 8 Full
  8 incoming idle        01   00       12.3      5        4      67.9  g726-32     40         0         0     9     1.2
 '''
+
+
+def known(plain: dict[str, Any]) -> TrunkStatus:
+    return typed(TrunkStatus, plain)
 
 
 def samples(text: str) -> dict[str, str]:
@@ -130,7 +141,7 @@ def samples(text: str) -> dict[str, str]:
 class TrunkTextTests(unittest.TestCase):
     def test_metrics(self) -> None:
         """Each number is another one. Of a circuit's row that is idle only what differs is looked at."""
-        text = metrics.exposition(FULL)
+        text = metrics.exposition(known(FULL))
         lines = {name: value for name, value in samples(text).items() if 'circuit="8"' not in name.replace(
             'rtp_packets_total{circuit="8"', '').replace('state{circuit="8"', '')}
         others = {name for name in lines if name.startswith('e1gw_circuit_state{') and lines[name] == '0'}
@@ -147,31 +158,29 @@ class TrunkTextTests(unittest.TestCase):
         named = {name for file in ('alerts.yml', 'dashboard.py')
                  for name in re.findall(r'\be1gw_\w+', support.text_of(f'{support.TOP}/dist/package/{file}'))}
         tie = tie_status.status_of(Tie(TieOptions('', None, 0.0, False), '', print))
-        text = metrics.exposition(FULL) + tie_status.exposition(tie)
+        text = metrics.exposition(known(FULL)) + tie_status.exposition(tie)
         self.assertLessEqual(named, {*re.findall(r'^# TYPE (\w+)', text, re.M)})
 
     def test_metrics_of_what_is_not_there(self) -> None:
-        few = metrics.exposition(STATUS, 'w"\\\n')
+        few = metrics.exposition(known(STATUS), 'w"\\\n')
         self.assertIn('e1gw_trunk_up{trunk="w\\"\\\\\\n"} 1\n', few)
-        for name in ('role', 'fed', 'gaps', 'rate', 'transport', 'crc4'):
-            self.assertNotIn(f'e1gw_{name}', few.replace('trunk_', ''))
-        few = metrics.exposition({key: value for key, value in FULL.items() if key != 'program'} | {
+        for name in ('role', 'fed', 'rate', 'transport', 'crc4'):
+            self.assertNotIn(f'\ne1gw_{name}', few.replace('trunk_', ''))
+        few = metrics.exposition(known({key: value for key, value in FULL.items() if key != 'program'} | {
             'role': 'standby', 'feed_age': None, 'crc4': CRC4 | {'aligned': None}, 'clock': {
-                'stalled': True, 'stalls': 0, 'gaps': 1, 'gap_seconds': 2.0, 'ppm': None}})
+                'stalled': True, 'stalls': 0, 'gaps': 1, 'gap_seconds': 2.0, 'ppm': None}}))
         for line in ('e1gw_trunk_stalled 1', 'e1gw_role 0', 'e1gw_trunk_gaps_total 1'):
             self.assertIn(f'{line}\n', few)
         for name in ('connected', 'feed_age_seconds', 'crc4_aligned', 'rate_ppm'):
             self.assertNotIn(f'\ne1gw_{name}', few.replace('trunk_', ''))
 
     def test_table(self) -> None:
-        self.assertEqual(metrics.table(FULL), TABLE)
-        few = metrics.table(STATUS | {'circuits': []}).splitlines()
+        self.assertEqual(metrics.table(known(FULL)), TABLE)
+        few = metrics.table(known(STATUS | {'circuits': []})).splitlines()
         self.assertEqual(few, ['trunk west, e1gw 1.2, up 100 s', '2.0 s of the trunk at 00:01:40 UTC, aligned; the '
-                               'other end: no alarm', 'alignment lost: frame 21, multiframe 22; stalls 23',
-                               metrics.COLUMNS])
-        self.assertEqual(metrics.circuit_table(FULL, 8).splitlines(), [metrics.COLUMNS, TABLE.splitlines()[-1]])
-        self.assertEqual(metrics.circuit_table(STATUS, 9).splitlines()[1],
-                         ' 9 has no table in the configuration, and no call yet')
+                               'other end: no alarm', 'alignment lost: frame 21, multiframe 22; stalls 23, '
+                               'slips 0 (0.0 s)', metrics.COLUMNS])
+        self.assertEqual(metrics.circuit_table(known(FULL), 8).splitlines(), [metrics.COLUMNS, TABLE.splitlines()[-1]])
 
     def test_lines_of_the_table(self) -> None:
         slips = {'stalled': False, 'stalls': 0, 'gaps': 0, 'gap_seconds': 0.0, 'ppm': None}
@@ -183,9 +192,9 @@ class TrunkTextTests(unittest.TestCase):
                  'aligned; the other end: RAI (bit A), distant multiframe alarm (bit y)'),
                 ({'role': 'standby', 'fed': True}, 3, 'two machines: standby, fed'),
                 ({'role': 'active', 'fed': True, 'differs': []}, 3, 'two machines: the standby is fed'),
-                ({'transport': {'packets': 1}}, 3, metrics.COLUMNS), ({'transport': None}, 3, metrics.COLUMNS),
-                ({'transport': CARD | {'red': False, 'loopback': False, 'e_bits': 0, 'code_violations': 5}}, 3,
-                 'card: span 2, no alarm, code violations 5'),
+                ({'transport': {'packets': 1}}, 3, metrics.COLUMNS),
+                ({'transport': CARD | {'red': 0, 'loopback': 0, 'e_bits': 0, 'code_violations': 5}}, 3,
+                 'card: span 2, no alarm, code violations 5, bit errors 37'),
                 ({'transport': {'satop': 'packets missing', 'received': 7, 'lost': 2, 'malformed_other_size': 3,
                                 'malformed_short': 1}}, 3, 'satop: packets missing; received 7, lost 2, refused 4'),
                 ({'transport': {'satop': ''}}, 3, 'satop: no fault; received 0, lost 0, refused 0'),
@@ -196,7 +205,7 @@ class TrunkTextTests(unittest.TestCase):
                 ({'crc4': CRC4 | {'aligned': None, 'given_up': 0}}, 3, 'CRC-4: not counted yet, lost 35; errored 32 '
                  'of 31 submultiframes, the other end reports 33'))
         for more, at, line in rows:
-            self.assertEqual(metrics.table(STATUS | more).splitlines()[at], line)
+            self.assertEqual(metrics.table(known(STATUS | more)).splitlines()[at], line)
 
     def test_state(self) -> None:
         """The first of these that holds."""
@@ -207,9 +216,9 @@ class TrunkTextTests(unittest.TestCase):
             ({'program': False}, 'no connection to the program since 00:00:01 UTC'), ({'fault': 'no card'}, 'no card'))
         for more, words in steps:
             status |= more
-            self.assertEqual(metrics.state_of(status), words)
+            self.assertEqual(metrics.state_of(known(status)), words)
         others = {key: value for key, value in STATUS.items() if key != 'program'}
-        self.assertEqual(metrics.state_of(others), 'aligned')
+        self.assertEqual(metrics.state_of(known(others)), 'aligned')
 
     def test_line_among_trunks(self) -> None:
         late = ROW | {'circuit': 9, 'datagrams': {'sent': 1, 'admitted': 1, 'Late': 40}}
@@ -222,7 +231,7 @@ class TrunkTextTests(unittest.TestCase):
                  'west         1.2      1970-01-02 00:00      0        0        0  aligned; the other end: RAI (bit '
                  'A)'),
                 ({'remote_alarm': {'frame': True, 'multiframe': False}, 'circuits': [], 'trunk_up': False,
-                  'fed': False, 'ended': {'json': 'no room', 'session': 'x', 'calls': None}},
+                  'role': 'active', 'fed': False, 'ended': {'json': 'no room', 'session': 'x', 'calls': None}},
                  'west         1.2      1970-01-02 00:00      0        0        0  no trunk; ended: json, session; '
                  'not fed'),
                 ({'clock': {'stalled': False, 'rate': 0.2, 'rate_wrong': True}, 'circuits': [],
@@ -230,7 +239,7 @@ class TrunkTextTests(unittest.TestCase):
                  'west         1.2      1970-01-02 00:00      0        0        0  aligned; wrong rate 20.00 %; satop: '
                  'packets missing'))
         for more, line in rows:
-            self.assertEqual(str(ctl_all.TrunkLine.from_status('west', STATUS | more)), line)
+            self.assertEqual(str(ctl_all.TrunkLine.from_status('west', known(STATUS | more))), line)
 
 
 class HiddenAddressTests(unittest.TestCase):

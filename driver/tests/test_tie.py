@@ -25,7 +25,7 @@ from e1gw_tie.messages import BadMessage, Greeting, Message, SiteState, encode_m
 from e1gw_tie.pairs import pairs_of
 from e1gw_tie.status import serve_status, texts_of
 from e1gw_tie.tie import Tie, TieOptions
-from e1gw_tie.trunk import LOOK
+from e1gw_tie.trunk import LOOK, told_by
 from e1gw_common.tls import is_exposed, is_loopback
 
 
@@ -118,7 +118,9 @@ class TieEndTests(unittest.TestCase):
         for event, is_dark in rows:
             tie = Tie(TieOptions('', None, 0.0, False), 'run', lambda report: None)
             tie.out_of_service, tie.site = False, mock.Mock()
-            tie.on_event(event)
+            told = told_by(json.dumps(event))
+            assert told
+            tie.on_event(told)
             self.assertEqual(tie.site.send.call_args_list, [mock.call(SiteState(True, {}))] * is_dark, event)
 
 

@@ -8,12 +8,17 @@ from typing import Any, Coroutine
 from .ties import G726, PCMA
 from e1gw_common.answers import DONE, CommandAnswer, refused
 from e1gw_common.report import Report
-from e1gw_common.lines import State
+from e1gw_common.lines import LineStatus, State
 from e1gw_tie.coding import CircuitCoding, CodecChanges, Coding
 from e1gw_tie.events import CodecGiven, Warned
+from e1gw_tie.trunk import FollowedTrunk, TrunkCircuit, TrunkFlow
 
 OWN = Coding('pcma', 100)
 TALKS, SILENT = (State.ANSWERED, State.CLEAREDBACK), (State.IDLE, State.ACKED, State.RELEASING, State.BLOCKED)
+
+
+def followed(law: str, *circuits: TrunkCircuit) -> FollowedTrunk:
+    return FollowedTrunk('a', law, True, TrunkFlow(False), {}, {}, circuits)
 
 
 class WantedCodingTests(unittest.TestCase):
@@ -59,9 +64,9 @@ class CodecChangesTests(unittest.TestCase):
                 **codings: Coding) -> CodecChanges:
         trunk: Any = self
         made = CodecChanges(asked, trunk, self.tell, self.looked.append)
-        made.begin({'law': law, 'circuits': [
-            {'circuit': int(n[1:]), 'configured_codec': its.codec, 'configured_payload': its.payload,
-             'codec': 'pcmu', 'payload': 0} for n, its in codings.items()]})
+        made.begin(followed(law, *(TrunkCircuit(line=LineStatus(
+            int(n[1:]), configured_codec=its.codec, configured_payload=its.payload, codec='pcmu'))
+            for n, its in codings.items())))
         made.on_far_codec(far) if hears else None
         return made
 
@@ -91,15 +96,15 @@ class CodecChangesTests(unittest.TestCase):
         made.give(1, State.CLEAREDBACK)
         made.give(1, State.IDLE)
         self.assertEqual(self.asked, ['codec 1 pcma 8 auto', 'codec 1 g726-16 96 auto'])
-        made.on_status_row({'circuit': 1, 'codec': 'pcmu', 'payload': 0})
-        made.on_status_row({'circuit': 9, 'codec': 'pcmu', 'payload': 0})
+        made.on_codec(1, Coding('pcmu', 0))
+        made.on_codec(9, Coding('pcmu', 0))
         made.give(1, State.IDLE)
         made.give(1, State.ANSWERED)
         self.assertEqual(self.asked[2:], ['codec 1 pcma 8 auto', 'codec 1 g726-16 96 auto'])
         self.assertEqual(self.events, [CodecGiven(1, 'pcma', 8, 'done'), CodecGiven(1, 'g726-16', 96, 'not now'),
                                        CodecGiven(1, 'pcma', 8, 'done'), CodecGiven(1, 'g726-16', 96, 'done')])
         self.assertEqual(self.looked, [1] * 4)
-        made.on_status_row({'circuit': 1, 'codec': 'pcma', 'payload': 8})
+        made.on_codec(1, PCMA)
         made.give(1, State.IDLE)
         self.assertEqual(len(self.asked), 4)
 
@@ -113,7 +118,7 @@ class CodecChangesTests(unittest.TestCase):
         self.assertEqual((self.asked, self.events, self.looked), (['codec 1 pcma 8 auto'], [], []))
         made.give(1, State.IDLE)
         self.assertEqual(self.looked, [1])
-        made.begin({'law': 'mu', 'circuits': []})       # (another trunk)
+        made.begin(followed('mu'))       # (another trunk)
         self.assertIsNone(made.own)
         self.changes(hears=False, c1=Coding('pcmu', 97)).give(1, State.IDLE)
         self.assertEqual(len(self.asked), 2)
@@ -124,7 +129,7 @@ class CodecChangesTests(unittest.TestCase):
         setattr(self, 'begin', tasks.append)
         made.give(1, State.IDLE)
         made.give(1, State.ANSWERED)
-        made.on_status_row({'circuit': 1, 'codec': 'pcma', 'payload': 8})       # (it is of before the answer)
+        made.on_codec(1, PCMA)       # (it is of before the answer)
         self.assertEqual(len(tasks), 1)
         self.answers[:1] = [refused('not now')]
         with self.assertRaises(StopIteration):

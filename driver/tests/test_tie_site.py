@@ -46,9 +46,9 @@ class SiteRuleTests(unittest.TestCase):
 
     def test_names(self) -> None:
         """A certificate is that of a host, by its name or its address."""
-        names: Any = {'subjectAltName': (('DNS', 'West.example'), ('IP Address', '0:0:0:0:0:0:0:1'))}
+        names = ('DNS', 'West.example'), ('IP Address', '0:0:0:0:0:0:0:1')
         self.assertTrue(has_name(names, 'west.example') and has_name(names, '::1'))
-        self.assertFalse(has_name(names, 'east.example') or has_name(names, '127.0.0.1') or has_name(None, 'west'))
+        self.assertFalse(has_name(names, 'east.example') or has_name(names, '127.0.0.1') or has_name((), 'west'))
 
 
 class SiteEnd:

@@ -4,6 +4,7 @@ from __future__ import annotations
 
 import asyncio
 import itertools
+import json
 from collections import deque
 from typing import Any, Coroutine
 
@@ -15,6 +16,7 @@ from e1gw_tie.coding import SIGNALLING
 from e1gw_tie.messages import encode_message, message_of
 from e1gw_tie.pairs import Pairs
 from e1gw_tie.tie import Tie, TieOptions
+from e1gw_tie.trunk import told_by
 
 JOINED = range(1, 5)        # on odd ones the west calls, on even ones the east
 HOLD, REST = 3.0, 12.0      # seconds
@@ -92,7 +94,7 @@ class JoinedTrunk(StandInDriver):
 
     def tell(self, **event: Any) -> None:
         if self.tie.trunk.is_up:
-            asyncio.get_running_loop().call_soon(self.tie.on_event, event)
+            asyncio.get_running_loop().call_soon(self.tie.on_event, told_by(json.dumps(event)))
 
     def joins(self, other: JoinedTrunk) -> None:
         """The sites are connected."""

@@ -7,6 +7,7 @@ import logging
 import os
 import time
 import unittest
+from dataclasses import replace
 from types import SimpleNamespace
 from typing import Any
 from unittest import mock
@@ -15,12 +16,14 @@ from . import support
 from .test_tell_lines import BEGIN, counts, row
 from e1gw.call_names import CallNames
 from e1gw.calls import CallLog, CallsNote
-from e1gw.clock import ClockFinding, TrunkRate
+from e1gw.clock import ClockFinding, ClockStatus, TrunkRate
 from e1gw.events import (Burst, CallsCleared, Event, FlowChanged, Flows, RateChanged, ReadEvents, Slip, Stalled,
                          WatchEnded)
 from e1gw_common import line_files
-from e1gw_common.lines import Line, Role, State
+from e1gw_common.answers import CommandCount
+from e1gw_common.lines import Line, LineStatus, Role, State
 from e1gw.resyncs import Resyncs
+from e1gw.status import MachineRole, PairStatus
 from e1gw.watcher import flow, tell_client, watch
 from e1gw.watcher.commands import MOST_HELD, ControlPeer
 from e1gw.watcher.connection import ProgramConnection
@@ -30,18 +33,21 @@ from e1gw.watcher.page import PageNotes, body_of, parts_of
 from e1gw_common.plain import typed
 from e1gw_common.web import MOST_VISITORS, WebServer
 from e1gw.watcher.http_pages import TrunkPages
-from e1gw.watcher.trunk import PairFacts, TrunkFacts
+from e1gw.watcher.trunk import TrunkFacts
 from e1gw_common.session import CIRCUITS, OCTETS_A_SECOND, Command, command_record
 
 
-COUNTED = 'seizures', 'answers', 'unacknowledged', 'faults', 'lost', 'datagrams'
+def counted(line: Line | LineStatus) -> list[int]:
+    return [line.seizures, line.answers, line.unacknowledged, line.faults]
+
+
 class TrunkWatchCase(support.LoopCase):
     """A trunk without a program; `facts` are what is known of it. `given` has the records for the program, `told` the
     events."""
 
     def watched(self, **facts: Any) -> watch.TrunkWatch:
         config = self.write('trunk.toml', 'law = "A"\n')
-        its = mock.Mock(flow=dict, **{
+        its = mock.Mock(flow=ClockStatus, **{
             'places.return_value.tell': config, 'config_path.return_value': config, 'place.return_value': 0,
             'outage.return_value': None, 'facts.return_value': TrunkFacts(**facts), 'starts.return_value': (),
             'start_octet.return_value': 0})
@@ -74,7 +80,7 @@ class WatchEdgeTests(TrunkWatchCase):
             found._restarts.look(100.0, 0, found._lines.open_circuits(), True)
             await asyncio.sleep(0)
             self.assertEqual([record[:2] for record in self.given], given)
-            self.assertEqual(found._values()['renewed'], len(given))
+            self.assertEqual(found.known().renewed, len(given))
 
     async def test_since_when_octets_were_lost(self) -> None:
         """By the time of day."""
@@ -97,33 +103,32 @@ class WatchEdgeTests(TrunkWatchCase):
         found.count(3, 'seize', 'done')
         found._resyncs = 4
         found._lines.lines[3].opened = time.monotonic() - 5.0
-        calls, shown, wanted = found.status.calls_note(), found.page_notes(), found._values()
+        calls, shown, wanted = found.status.calls_note(), found.page_notes(), found.known()
         assert calls
         found._lines.take('\n'.join([row(3, 'fault'), row(5, 'idle'), row(4, 'answered'), '']).encode())
         later = self.watched()
         later.blocks = found.blocks
         later.was_shown(typed(watch.ShownNote, json.loads(json.dumps(shown, default=vars))))
         later.take_up(typed(CallsNote, json.loads(json.dumps(calls, default=vars))))
-        its = later._values()
-        self.assertEqual([its[key] for key in ('renewed', 'commands')], [4, [
-            {'command': 'seize', 'answer': 'done', 'count': 1}]])
+        its = later.known()
+        self.assertEqual((its.renewed, its.commands), (4, (CommandCount('seize', 'done', 1),)))
         for n in 3, 4, 5:
-            before, after = wanted['circuits'][n - 1], its['circuits'][n - 1]
-            self.assertEqual({key: after[key] for key in COUNTED}, {key: before[key] for key in COUNTED}, n)
-            self.assertGreaterEqual(after['open'], before['open'])
-        self.assertGreaterEqual(wanted['circuits'][2]['open'], 5.0)
-        self.assertEqual([[row[key] for key in COUNTED[:4]] for row in its['circuits'][2:5]],
+            before, after = wanted.circuits[n - 1], its.circuits[n - 1]
+            self.assertEqual((counted(after.line), replace(after.packets, stale=False)),
+                             (counted(before.line), before.packets), n)
+            self.assertGreaterEqual(after.line.open, before.line.open)
+        self.assertGreaterEqual(wanted.circuits[2].line.open, 5.0)
+        self.assertEqual([counted(row.line) for row in its.circuits[2:5]],
                          [[1, 1, 0, 0], [1, 0, 1, 0], [0, 0, 0, 1]])
-        self.assertEqual((its['circuits'][2]['lost'], its['circuits'][2]['datagrams']['Late']), (5, 2))
+        self.assertEqual((its.circuits[2].packets.lost, its.circuits[2].packets.datagrams['Late']), (5, 2))
         naming, lines = CallNames(self.path('trunk.toml.calls')), {n: Line(n) for n in CIRCUITS}
         naming.begin('another', {n: 0 for n in CIRCUITS}, lines)
-        self.assertEqual([[getattr(lines[n], key) for key in COUNTED[:4]] for n in (3, 4, 5)],
-                         [[getattr(found._lines.lines[n], key) for key in COUNTED[:4]] for n in (3, 4, 5)])
+        self.assertEqual([counted(lines[n]) for n in (3, 4, 5)], [counted(found._lines.lines[n]) for n in (3, 4, 5)])
         for begun, late, all_late in (4096, 2, 2), (8192, 1, 3):        # (the same session, and then another one)
             later._lines.begin(begun)
             later._lines.take('\n'.join([*BEGIN, row(3, 'answered', '00 01', (0, 9, all_late)), counts(
                 3, 9, Late=late), 'now', '']).encode())
-            self.assertEqual(later._values()['circuits'][2]['datagrams']['Late'], all_late)
+            self.assertEqual(later.known().circuits[2].packets.datagrams['Late'], all_late)
 
     async def test_a_wrong_rate(self) -> None:
         """It is an alarm, and red in the first line, up to the right one, also behind another watcher."""
@@ -139,9 +144,9 @@ class WatchEdgeTests(TrunkWatchCase):
         self.assertTrue(rate.is_wrong)
         for what, is_bad in ('wrong rate', True), ('right rate', False):
             later.flowed(ClockFinding(what, 0.9985))
-            self.assertEqual(len(later._values()['alarms']), is_bad)
-            clock = {'stalls': 0, 'stalled': False, 'rate': 0.9985, 'rate_wrong': is_bad}
-            parts = parts_of(later._values() | {'clock': clock}, PageNotes((), (), None))
+            self.assertEqual(len(later.known().alarms), is_bad)
+            clock = ClockStatus(rate=0.9985, rate_wrong=is_bad)
+            parts = parts_of(replace(later.known(), clock=clock), PageNotes((), (), None))
             self.assertEqual('class="bad"' in body_of('state', parts['state'][:1]), is_bad)
             self.assertIn(f'{what.replace("right ", "")} 99.85 %', parts['state'][0].cells[0])
 
@@ -176,8 +181,8 @@ class WatchEdgeTests(TrunkWatchCase):
         self.assertEqual([record[:2] for record in self.given], [b'K\x03'])
 
     async def test_a_standby_writes_no_calls(self) -> None:
-        for role, lines in ('standby', 0), ('active', 1):
-            found = self.watched(pair=PairFacts(role == 'standby', True, 0.0))
+        for role, lines in (MachineRole.STANDBY, 0), (MachineRole.ACTIVE, 1):
+            found = self.watched(pair=PairStatus(role, True, 0.0))
             assert found._calls
             with mock.patch.object(found._calls, 'put') as put:
                 found._put_call('a line')
@@ -258,7 +263,7 @@ class WatchEdgeTests(TrunkWatchCase):
         with mock.patch.object(found, 'tell') as tell, self.assertLogs(watch.__name__) as logs:
             for why in 'no room', None:
                 found.stands_beside('json', why)
-                self.assertEqual(found._values()['ended'], {'json': why, 'calls': None, 'session': None})
+                self.assertEqual(found.known().ended, {'json': why, 'calls': None, 'session': None})
         tell.assert_called_once_with(WatchEnded('json', 'no room'))
         self.assertEqual([each.getMessage() for each in logs.records], ['json: written again'])
 
@@ -281,7 +286,7 @@ class WatchEdgeTests(TrunkWatchCase):
                 with mock.patch.object(its._trunk, 'place', lambda: place):
                     its.look_at_flow(self.now)
         with mock.patch.object(its._trunk, 'place', lambda: 2):
-            self.assertEqual(its.values()['clock'], {'stalled': False, 'stalls': 1})
+            self.assertEqual(its.flow.status(ClockStatus()), ClockStatus(stalls=1))
         self.assertTrue(its._connected['reports'])      # (a program that tells nothing since nothing comes is there)
         self.assertEqual([each for each in self.told if isinstance(each, FlowChanged)], [Stalled(1.0), Flows(2.4)])
 

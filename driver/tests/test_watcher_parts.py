@@ -17,10 +17,12 @@ from e1gw.crc4 import Crc4Note
 from e1gw.holder_state import ACTIVE, INTERFACE, STANDBY, HolderState, TrunkPlaces, other_interface, state_in
 from e1gw_common.answers import DONE, AnswerWord, CommandAnswer, refused
 from e1gw_common.lines import LineCounts
+from e1gw_common.plain import plain_of
 from e1gw.lock import InUse
 from e1gw.log_folder import LogPair, LogWriter, logged_by
 from e1gw_common.session import MULTIFRAME, trunk_record
 from e1gw.slots import SlotsNote
+from e1gw.status import TransportStatus
 from e1gw.watcher import ask_holder
 from e1gw.watcher.flow import Flow
 from e1gw.watcher.blocks import BlockStage, BlockedCircuits
@@ -56,7 +58,7 @@ class HolderSaysTests(unittest.TestCase):
             (STATE._replace(senders='any'), STATE, [SendersGiven('host')]),
             (STATE, STATE._replace(senders='peer'), [SendersGiven('peer')]), (STATE, STATE._replace(senders=''), [])]
         for before, now, told in cases:
-            self.assertEqual(events_of(before, now, {}), told)
+            self.assertEqual(events_of(before, now, TransportStatus(now.trunk)), told)
 
     def test_what_it_means(self) -> None:
         self.assertEqual(state_in(STATE.spell()), STATE)
@@ -141,7 +143,7 @@ class SaidFileTests(support.FolderCase):
         self.assertEqual([each.getMessage() for each in logs.records], ['program: odd words'])
         self.assertEqual([type(each) for each in told], [Crc4Changed, SatopChanged])
         assert its.crc4
-        self.assertEqual((its.crc4.counts['submultiframes'], its.status()['silent']), (500, 1))
+        self.assertEqual((its.crc4.counts['submultiframes'], plain_of(its.status('x'))['silent']), (500, 1))
         later = SaidLine(self.path('said'), self.path('satop'), STATE.words, its.noted(), told.append)
         later.look()
         assert later.crc4
@@ -214,7 +216,7 @@ class OpenLogTests(support.FolderCase):
         first, later = (LogReader(self.path('log'), 0.1, None, lambda: None, lambda: b'') for _ in range(2))
         first.clock.gaps, first.clock.lost_seconds = 2, 0.5
         later.take_up(first.noted(), None)
-        self.assertEqual([later.clock.status()[key] for key in ('gaps', 'gap_seconds')], [2, 0.5])
+        self.assertEqual((later.clock.status().gaps, later.clock.status().gap_seconds), (2, 0.5))
 
     def test_who_has_it(self) -> None:
         os.mkdir(self.path('log'))

@@ -12,7 +12,7 @@ from typing import Any, Callable, Coroutine
 
 from . import support
 from .test_tie_circuit import COLUMN, DONE, INCOMING, OUTGOING
-from e1gw_common.lines import UNKNOWN, Role, State
+from e1gw_common.lines import Role, State
 from e1gw_common.session import Command
 from e1gw_tie.coding import Coding
 
@@ -156,7 +156,7 @@ class StandInDriver:
         trunk = {'life': self.life, 'trunk_up': True, 'clock': {'stalled': False}, 'law': 'A',
                  'alarm': {**none, 'frame': self.alarm}, 'remote_alarm': none}
         return trunk | {'circuits': [
-            {'circuit': n, 'role': str(self.roles[n]), 'state': str(self.states[n]) if self.knows else UNKNOWN,
+            {'circuit': n, 'role': str(self.roles[n]), 'state': str(self.states[n]) if self.knows else 'unknown',
              'seizures': self.seizures[n], 'blocked': 'blocked' if n in self.blocked else None,
              'for': asyncio.get_running_loop().time() - self.since[n],
              'codec': self.codecs[n].codec, 'payload': self.codecs[n].payload,

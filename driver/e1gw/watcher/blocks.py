@@ -80,10 +80,10 @@ class BlockedCircuits:
         """Those of these circuits that are not blocked yet."""
         return [n for n in circuits if self.circuits.get(n, BlockStage.BLOCKED) is not BlockStage.BLOCKED]
 
-    def word(self, circuit: int) -> str | None:
+    def word(self, circuit: int) -> BlockNews | None:
         """What a status says of a circuit; None of one in service."""
         news = BlockNews.BLOCKING if self.not_yet_blocked([circuit]) else BlockNews.BLOCKED
-        return str(news) if circuit in self.circuits else None
+        return news if circuit in self.circuits else None
 
 
 class KeptBlocks:

@@ -5,17 +5,34 @@ from __future__ import annotations
 import logging
 import os
 import time
+from dataclasses import dataclass
 from math import inf
-from typing import Any
+from typing import Mapping
 
 from e1gw_common.faults import words_of_fault
-from ..dahdi import CONTROL, Alarm, SpanFacts, span_of
+from e1gw_common.plain import flat
+from ..dahdi import CONTROL, COUNTS, Alarm, SpanFacts, span_of
 from ..events import CardAlarm, CardAlarmChanged, Tell
 
 LOOK = 1.0                  # seconds between two looks
 DOWN = Alarm.RED | Alarm.BLUE | Alarm.NOT_OPEN
 
 logger = logging.getLogger(__name__)
+
+
+@dataclass(frozen=True)
+class CardStatus:
+    """A span, as a status has it; and by their names its alarms, 1 for those that stand, and what it has counted."""
+
+    span: int
+    numbers: Mapping[str, int] = flat()
+
+    def alarms(self) -> list[str]:
+        return [name for each in Alarm if self.numbers.get(str(each.name).lower()) for name in each.names()]
+
+    def counts(self) -> dict[str, int]:
+        """Those that are not 0."""
+        return {name: count for name in COUNTS if (count := self.numbers.get(name, 0))}
 
 
 class CardWatch:
@@ -66,12 +83,12 @@ class CardWatch:
             return f'the card is in alarm: {", ".join(down)}'
         return 'the other end has no alignment' if Alarm.YELLOW in alarms else None
 
-    def status(self) -> dict[str, Any]:
-        """All of it, as plain values; nothing if it is not known."""
+    def status(self) -> CardStatus | None:
+        """None if it is not known."""
         if not (span := self._span):
-            return {}
+            return None
         alarms = {str(each.name).lower(): int(each in span.alarms) for each in Alarm}
-        return {'span': span.number, **alarms, **span.counts}
+        return CardStatus(span.number, alarms | span.counts)
 
     def close(self) -> None:
         """Nothing is known of it from now on."""

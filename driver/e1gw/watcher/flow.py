@@ -4,6 +4,8 @@ from __future__ import annotations
 from dataclasses import dataclass, replace
 from enum import Enum
 
+from ..clock import ClockStatus
+
 QUIET = 1.0                             # seconds after which octets of the trunk are missed
 
 
@@ -20,6 +22,14 @@ class Flow:
     moved: float
     stood: float | None = None
     stalls: int = 0
+
+    @property
+    def is_stalled(self) -> bool:
+        return self.stood is not None
+
+    def status(self, clock: ClockStatus) -> ClockStatus:
+        """The same in what a clock knows of the octets."""
+        return replace(clock, stalled=self.is_stalled, stalls=self.stalls)
 
     def update(self, place: int, now: float, is_watched: bool) -> tuple[Flow, FlowChange | None]:
         """The trunk is at this place. Only what somebody reports (`is_watched`) can be missed."""

@@ -8,18 +8,20 @@ import logging
 import os
 import re
 from contextlib import contextmanager, suppress
-from dataclasses import dataclass
+from dataclasses import dataclass, replace
 from typing import TYPE_CHECKING, Iterator
 
 from e1gw_common.answers import CommandAnswer, refused
 from e1gw_common.faults import words_of_fault
 from e1gw_common.lines import SEIZURE_WAIT
+from e1gw_common.plain import plain_of
 from e1gw_common.session import OCTETS_A_SECOND
 from ..events import Event, LogLost, RoleGiven, SendersGiven, Tell, TrunkLost, TrunkOpened
 from ..holder_state import ACTIVE, INTERFACE, STANDBY, HolderState, TrunkPlaces, start_of, state_in
 from ..log_folder import logged_by
 from ..memory import in_memory
 from ..satop_numbers import number_of_now
+from ..status import TransportStatus
 from .card import CardWatch
 from .connection import connected
 from .ask_holder import ask
@@ -41,7 +43,7 @@ logger = logging.getLogger(__name__)
 
 # ---- what a holder says ----
 
-def events_of(before: HolderState | None, now: HolderState, transport: dict[str, object]) -> list[Event]:
+def events_of(before: HolderState | None, now: HolderState, transport: TransportStatus) -> list[Event]:
     """What is told of a trunk whose holder has said another thing before, or nothing."""
     told = list[Event]()
     if before and before.role != now.role:
@@ -55,7 +57,7 @@ def events_of(before: HolderState | None, now: HolderState, transport: dict[str,
     if before and now.why != before.why and LOG_LOST.search(now.why):
         told.append(LogLost())
     if is_another:
-        told.append(TrunkOpened(now.trunk, {'trunk': now.trunk, **transport}))
+        told.append(TrunkOpened(now.trunk, plain_of(transport)))
     return told
 
 
@@ -157,7 +159,7 @@ class HeldTrunk(WatchedTrunk):
         self._lost = 0 if state.program == self._lost else self._lost
         if state != self._told and state.interface == INTERFACE:
             before, self._told = self._told, state
-            for event in events_of(before, state, self._line.status()):
+            for event in events_of(before, state, self._line.status(state.trunk)):
                 self._log_losses += isinstance(event, LogLost)
                 if isinstance(event, TrunkLost):
                     self._line.on_close()
@@ -231,10 +233,10 @@ class HeldTrunk(WatchedTrunk):
 
     def facts(self) -> TrunkFacts:
         state, line = self.state, self._line
-        carried = {'transport': {'trunk': state.trunk, **line.status(), **self._card.status()},
-                   'crc4': line.crc4 and line.crc4.status()}
+        transport = replace(line.status(state.trunk), card=self._card.status())
         return TrunkFacts(state.opened, fault_of(state), state.program_version, state.senders, self._log_losses,
-                          state.wait, self._reader.why(), carried, self.pair.facts() if self.pair else None)
+                          state.wait, self._reader.why(), transport, line.crc4.status() if line.crc4 else None,
+                          self.pair.facts() if self.pair else None)
 
     def outage(self) -> str | None:
         return self._card.outage()

@@ -6,14 +6,16 @@ import asyncio
 import functools
 import socket
 import time
-from typing import Any, Awaitable, Callable
+from dataclasses import replace
+from typing import Awaitable, Callable
 
 from e1gw_common.lines import Line
 from e1gw_common.web import PageAnswer, PageRequest, StatusTexts, Stream, WebServer
 from ..ctl_all import asked_trunks
 from ..metrics import exposition, table
 from ..priority import put_behind
-from ..udp_tables import sockets_of, with_sockets
+from ..status import TrunkStatus
+from ..udp_tables import sockets_of
 from .page import HOST, POLICY, PageNotes, Parts, message_of, page_of, parts_of, trunks_page, waiting_page
 from .process import python_words, run_process, start_process
 
@@ -27,11 +29,11 @@ WHOLE = b'</html>\n'
 DRAWING = "default-src 'none'; style-src 'unsafe-inline'"       # what one that is drawn may load
 
 
-class TrunkTexts(StatusTexts):
+class TrunkTexts(StatusTexts[TrunkStatus]):
     """The texts of a trunk's status, with the parts of its page."""
 
-    def __init__(self, status: dict[str, Any], notes: PageNotes) -> None:
-        super().__init__(status, table, lambda its: exposition(its, str(its['name'])))
+    def __init__(self, status: TrunkStatus, notes: PageNotes) -> None:
+        super().__init__(status, table, lambda its: exposition(its, its.name))
         self._notes = notes
 
     @functools.cached_property
@@ -43,7 +45,7 @@ class TrunkPages:
     """The texts of a status of a moment ago, in which all is that was told before. `take` is called so that all that
     was told is known."""
 
-    def __init__(self, status: Callable[[], dict[str, Any]], take: Callable[[], None], lines: list[Line],
+    def __init__(self, status: Callable[[], TrunkStatus], take: Callable[[], None], lines: list[Line],
                  notes: PageNotes) -> None:
         self._status, self._take, self._lines, self._notes = status, take, lines, notes
         self._due, self._has_changed = 0.0, True
@@ -62,7 +64,9 @@ class TrunkPages:
             self._take()
         if self._last is None or time.monotonic() >= self._due:
             self._has_changed, self._due = False, time.monotonic() + EVERY
-            self._last = TrunkTexts(with_sockets(self._status(), sockets_of(self._lines)), self._notes)
+            status, sockets = self._status(), sockets_of(self._lines)
+            rows = (replace(row, socket=sockets.get(row.line.circuit)) for row in status.circuits)
+            self._last = TrunkTexts(replace(status, circuits=(*rows,)), self._notes)
         return self._last
 
 
@@ -88,7 +92,7 @@ class TrunkServer(WebServer):
                 PageAnswer(b'it cannot be made\n', status='503 Service Unavailable')
         if request.path == '/' and request.is_of_browser:
             now = await self._texts()
-            return PageAnswer(page_of(f'trunk {now.status["name"]}', now.parts, [*self._slow]), 'text/html', POLICY)
+            return PageAnswer(page_of(f'trunk {now.status.name}', now.parts, [*self._slow]), 'text/html', POLICY)
         return await super().page(request)
 
 

@@ -11,7 +11,7 @@ import time
 from dataclasses import dataclass
 from enum import StrEnum
 from html import escape
-from typing import Any, Iterable, Mapping, NamedTuple, Sequence
+from typing import Iterable, NamedTuple, Sequence
 
 from e1gw_common.call_lines import CallLine
 from e1gw_common.lines import State
@@ -21,6 +21,7 @@ from ..ctl_all import TrunkHere, TrunkLine
 from ..deaf import refused_words, why_call_deaf, words_of_call, words_of_row
 from ..events import ReadEvent
 from ..metrics import NOT_OPEN, codec_word, head_of, states_of
+from ..status import CircuitStatus, TrunkFiles, TrunkStatus
 
 
 class Look(StrEnum):
@@ -85,15 +86,14 @@ def length(seconds: float) -> str:
     return f'{hours}:{rest // 60:02}:{rest % 60:02}' if hours else f'{rest // 60}:{rest % 60:02}'
 
 
-def state_words(status: Mapping[str, Any], row: Mapping[str, Any]) -> str:
+def state_words(status: TrunkStatus, row: CircuitStatus) -> str:
     """The state of a circuit, with how far its block by the operator is, and why it hears nothing."""
-    words = *states_of(row), words_of_row(row)
-    return NOT_OPEN if status.get('fault') else ', '.join(filter(None, words))
+    return NOT_OPEN if status.fault else ', '.join(filter(None, (*states_of(row), words_of_row(row))))
 
 
-def look_of_circuit(status: Mapping[str, Any], row: Mapping[str, Any]) -> Look:
+def look_of_circuit(status: TrunkStatus, row: CircuitStatus) -> Look:
     """That of a circuit, as far as is known."""
-    is_bad = not status.get('fault') and bool(words_of_row(row) or row['state'] == State.FAULT)
+    is_bad = not status.fault and bool(words_of_row(row) or row.line.state is State.FAULT)
     return Look.BAD if is_bad else Look.PLAIN
 
 
@@ -103,18 +103,17 @@ def look_of_call(call: CallLine) -> Look:
     return Look.POOR if POOR * (lost + discarded) > received + lost + discarded else Look.PLAIN
 
 
-def circuit_row(status: Mapping[str, Any], row: Mapping[str, Any], calls: Mapping[str, Mapping[str, str]]) -> ShownRow:
+def circuit_row(status: TrunkStatus, row: CircuitStatus) -> ShownRow:
     """A circuit: number, state, role, and of its call, if it is in one, how long it lasts, codec, loss and jitter, and
     what was discarded."""
-    look = look_of_circuit(status, row)
-    cells = [str(row['circuit']), state_words(status, row), row['role']]
-    if not (fields := calls.get(str(row['circuit']))):
+    look, number = look_of_circuit(status, row), str(row.line.circuit)
+    cells = [number, state_words(status, row), row.line.role]
+    if not (call := next((call for call in status.calls if call.circuit == number), None)):
         return ShownRow([*cells, '', '', '', '', ''], look)
-    call = CallLine(**fields)
     begin = call.seized or call.answered
-    age = status['time'] - second_of(begin) if begin else row['for']
+    age = status.time - second_of(begin) if begin else row.line.for_
     lost = call.lost.removeprefix('0')      # (shown if there is any)
-    return ShownRow([*cells, length(age), codec_word(row), lost, f'{row["jitter_ms"]:.1f}', refused_words(call)],
+    return ShownRow([*cells, length(age), codec_word(row), lost, f'{row.packets.jitter_ms:.1f}', refused_words(call)],
                     look or look_of_call(call))
 
 
@@ -128,13 +127,12 @@ def ended_row(line: str, kept: str | None) -> ShownRow:
                     Look.BAD if why_call_deaf(call) else look_of_call(call))
 
 
-def parts_of(status: Mapping[str, Any], notes: PageNotes) -> Parts:
+def parts_of(status: TrunkStatus, notes: PageNotes) -> Parts:
     """The rows of all tables."""
-    calls = {call['circuit']: call for call in status['calls']}
-    alarms = [ShownRow([each['words'], clock(each['time'])], Look.BAD) for each in status['alarms']]
+    alarms = [ShownRow([each.words, clock(each.time)], Look.BAD) for each in status.alarms]
     return {'state': [ShownRow([line.text], Look.BAD if line.is_bad else Look.PLAIN) for line in head_of(status)],
             'alarms': alarms or [ShownRow(['no alarm', ''])],
-            **{f'c{row["circuit"]}': [circuit_row(status, row, calls)] for row in status['circuits']},
+            **{f'c{row.line.circuit}': [circuit_row(status, row)] for row in status.circuits},
             'calls': [ended_row(line, notes.kept) for line in notes.ended],
             'events': [ShownRow([clock(each.time), each.words]) for each in notes.events]}
 
@@ -195,21 +193,21 @@ HOST = '\0'             # in place of the host by which a reader has come
 def trunk_row(trunk: TrunkHere, here: str) -> str:
     """A trunk with its circuits, a square each, and where its page is, as a reader sees it who has come to `here`;
     nothing of one that serves no page."""
-    status = trunk.status or {'http': ('', 0), 'circuits': []}
-    if not status.get('http'):
+    status = trunk.status or TrunkStatus(files=TrunkFiles(http=('', 0)))
+    if not status.files.http:
         return trunk_row(TrunkHere(True, TrunkLine(trunk.line.name, state='serves no page (--http)')), here)
     name, *cells = [escape(each) for each in trunk.line]
-    host, port = status['http']
+    host, port = status.files.http
     host = HOST if host in (here, '0.0.0.0', '::') else f'[{host}]' if ':' in host else host
     name = f'<a href="//{escape(host)}:{port}/">{name}</a>' if port else name
-    lines = ''.join(square_of(status, row) for row in status['circuits'])
+    lines = ''.join(square_of(status, row) for row in status.circuits)
     return f'<tr><td>{name}</td><td>{lines}</td>{"".join(f"<td>{cell}</td>" for cell in reversed(cells))}</tr>'
 
 
-def square_of(status: Mapping[str, Any], row: Mapping[str, Any]) -> str:
+def square_of(status: TrunkStatus, row: CircuitStatus) -> str:
     """A circuit, coloured by its state."""
     state, look = escape(state_words(status, row)), look_of_circuit(status, row)
-    return f'<i class="{look}" data-s="{state}" title="{row["circuit"]} {state}"></i>'
+    return f'<i class="{look}" data-s="{state}" title="{row.line.circuit} {state}"></i>'
 
 
 def trunks_page(trunks: Iterable[TrunkHere], here: str) -> bytes:

@@ -16,13 +16,13 @@ from e1gw_common.tls import context_of
 from ..events import Tell
 from ..holder_state import start_of
 from ..log_folder import LogPair
+from ..status import MachineRole, PairStatus
 from .ask_holder import ask
 from .feed import FRESH, TICK, FeedServer
 from .held import HeldTrunk
 from .journal import NOTICE
 from .options import feeding_of
 from .standby import FedLog, TrunkStandby
-from .trunk import PairFacts
 
 PATIENCE = 30.0             # seconds for a promotion or its reverse
 GRACE = 5.0                 # seconds for the other machine to be fed the rest
@@ -208,11 +208,12 @@ class TrunkPair:
         """What is fed here, while this machine stands by."""
         return self._standby.fed if self._trunk.stands_by() else None
 
-    def facts(self) -> PairFacts:
+    def facts(self) -> PairStatus:
         """Role and feed."""
         standby, stands = self._standby, self._is_standby()
         age = standby.age() if stands else self._feed.age()
-        its = PairFacts(stands, age is not None and age <= FRESH, age and round(age, 3))
+        role = MachineRole.STANDBY if stands else MachineRole.ACTIVE
+        its = PairStatus(role, age is not None and age <= FRESH, age and round(age, 3))
         return replace(its, feed_fault=standby.why or None,
                        differs=(*standby.fed.circuits,) if standby.fed else ()) if stands else its
 

@@ -5,13 +5,14 @@ import logging
 import os
 from contextlib import suppress
 from dataclasses import dataclass
-from typing import Any, Iterator, Sequence
+from typing import Iterator, Sequence
 
 from ..crc4 import Crc4, Crc4Note, counts_in
 from ..events import Event, SatopChanged, Tell
 from ..satop import SatopSeen, counts_of, is_here, status_of
 from ..satop_numbers import begun_in
 from ..slots import Slots, SlotsNote
+from ..status import TransportStatus
 from ..udp_tables import unheard
 from .process import AT_END
 
@@ -135,9 +136,9 @@ class SaidLine:
         if self.crc4:
             self.crc4.reset()
 
-    def status(self) -> dict[str, Any]:
-        """What the transport tells of itself, as plain values."""
-        return {**status_of(self._seen), **(self.slots.status() if self.slots else {})}
+    def status(self, trunk: str) -> TransportStatus:
+        """What the transport of a trunk tells of itself."""
+        return TransportStatus(trunk, status_of(self._seen), self.slots.status() if self.slots else None)
 
     def noted(self) -> LineNote:
         return LineNote(self._program.note, self._satop.note, self.crc4.note() if self.crc4 else None,

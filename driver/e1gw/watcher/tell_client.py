@@ -7,7 +7,7 @@ import socket
 import time
 from contextlib import suppress
 from dataclasses import dataclass, replace
-from typing import Any, Callable
+from typing import Callable
 
 from e1gw_common.faults import words_of_fault
 from e1gw_common.lines import Alignment, read_config, tables_of
@@ -17,6 +17,7 @@ from ..calls import CallLog, CallsNote
 from ..counts import DatagramCounts
 from ..events import Connected, Disconnected, Flows, LineChanged, Placed, Stalled, Tell
 from ..call_names import CallNames, note_of
+from ..status import ToldStatus
 from .tell_lines import BadTelling, TrunkState
 from . import flow
 from .flow import Flow, FlowChange
@@ -45,7 +46,7 @@ class ToldNote:
     flow: Flow
 
 
-class TrunkStatus:
+class TellClient:
     """A trunk as its program tells it. `tell` is called with each change, and `put` given the line of each call."""
 
     def __init__(self, trunk: WatchedTrunk, name: str, tell: Tell, counts: DatagramCounts,
@@ -65,7 +66,7 @@ class TrunkStatus:
         self._read = asyncio.Event()                    # reports are to be read at once
         self._line: socket.socket | None = None
         self._session = self._why = ''          # (why the last connection has ended)
-        self._flow = Flow(0, time.monotonic())
+        self.flow = Flow(0, time.monotonic())
         self.changed: Callable[[], None] = lambda: None         # called when calls have changed
         self._has_changed = False
         self._is_known = False                  # how the lines stand at the place up to which changes were told
@@ -244,18 +245,18 @@ class TrunkStatus:
             before, self._tables = self._tables, tables_of(config)
             self.calls.changed = frozenset(n for n in CIRCUITS if before.get(n) != self._tables.get(n))
         await self._catch_up(place)
-        self._flow, self._line = replace(self._flow, moved=time.monotonic()), line
+        self.flow, self._line = replace(self.flow, moved=time.monotonic()), line
         self.lines.begin(self._trunk.start_octet())
 
     def counts_told(self) -> ToldNote:
         """What this process has told beside the calls."""
         lines, stands = self.lines, bool(self._stood if self._stands is None else self._stands)
         return ToldNote(stands, self._since, (*lines.alarms.values(), *lines.remote.values()),
-                        (*lines.losses.values(),), self._flow)
+                        (*lines.losses.values(),), self.flow)
 
     def was_told(self, note: ToldNote) -> None:
         """That is not told again."""
-        self._stood, self._since, self._flow = note.stands, note.since, note.flow
+        self._stood, self._since, self.flow = note.stands, note.since, note.flow
         for its, told in zip((self.lines.alarms, self.lines.remote), (note.alarms[:2], note.alarms[2:])):
             its.update(zip(Alignment, told))
         self.lines.losses.update(zip(Alignment, note.losses))
@@ -272,8 +273,8 @@ class TrunkStatus:
 
     def look_at_flow(self, now: float) -> None:
         """To be called a few times a second: whether octets of the trunk come."""
-        before = self._flow
-        self._flow, change = before.update(self.place(), now, self._line is not None)
+        before = self.flow
+        self.flow, change = before.update(self.place(), now, self._line is not None)
         if change is FlowChange.FLOWS:
             self.tell(Flows(round(now - (before.stood or now), 3)))
         elif change is FlowChange.STALLED:
@@ -286,12 +287,10 @@ class TrunkStatus:
 
     def outage(self) -> str | None:
         """Why no seizure can reach the other end, or None."""
-        is_stalled = self._flow.stood is not None
-        return 'the trunk is stalled' if is_stalled else self._trunk.outage() or self.lines.outage()
+        return 'the trunk is stalled' if self.flow.is_stalled else self._trunk.outage() or self.lines.outage()
 
-    def values(self) -> dict[str, Any]:
-        """All that is known, as plain values."""
-        return self.lines.status() | {
-            'octets': self.place(), 'life': self.naming.life or None,
-            'trunk_up': bool(self._stands), 'program': bool(self._stands), 'program_since': round(self._since, 3),
-            'clock': {'stalled': self._flow.stood is not None, 'stalls': self._flow.stalls}}
+    def told(self) -> ToldStatus:
+        """What is known of the trunk by what was told."""
+        stands = bool(self._stands)
+        return replace(self.lines.status(), octets=self.place(), life=self.naming.life or None, trunk_up=stands,
+                       program=stands, program_since=round(self._since, 3))

@@ -4,11 +4,12 @@ from __future__ import annotations
 import time
 from typing import Any, Callable, Mapping
 
-from e1gw_common.lines import IN_CALL, LEADS, OPEN, PAIRS, UNKNOWN, Alignment, Line, Role, State, law_of, lines_of
+from e1gw_common.lines import IN_CALL, LEADS, OPEN, PAIRS, Alignment, Line, Role, State, law_of, lines_of
 from e1gw_common.session import Codec, Command, codec_record, command_record
 from ..counts import DatagramCounts, ToldCounts
 from ..events import (AlarmChanged, AlignmentFound, AlignmentLost, CodecChanged, LineChanged, Placed,
                       RemoteAlarmChanged)
+from ..status import CircuitStatus, ToldStatus
 
 VERSION = '1'
 MOST_LINE = 4096            # octets of a line
@@ -53,15 +54,16 @@ class TrunkState:
     def open_circuits(self) -> list[int]:
         return [n for n, line in self.lines.items() if line.state in OPEN]
 
-    def status(self) -> dict[str, Any]:
-        """All that is known, as a dictionary of plain values."""
-        now, rest = self._clock(), {} if self.known else {'state': UNKNOWN}
-        return {
-            'octets': self.place, 'law': self.law,
-            'alarm': {str(what): on for what, on in self.alarms.items()},
-            'remote_alarm': {str(what): on for what, on in self.remote.items()},
-            'losses': {str(what): n for what, n in self.losses.items()},
-            'circuits': [line.status(now) | rest for line in self.lines.values()]}
+    def status(self) -> ToldStatus:
+        """What was told of the trunk."""
+        return ToldStatus(self.place, law=self.law, alarm={**self.alarms}, remote_alarm={**self.remote},
+                          losses={**self.losses})
+
+    def rows(self) -> list[CircuitStatus]:
+        """What was told of each circuit."""
+        now = self._clock()
+        return [CircuitStatus(line=line.status(now, self.known), packets=self.counts.status(n))
+                for n, line in self.lines.items()]
 
     def begin(self, place: int | None = None) -> None:
         """A program is there that will tell the whole state; its session has begun at this place, by default that of

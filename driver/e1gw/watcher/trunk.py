@@ -7,15 +7,16 @@ import logging
 import re
 import socket
 from abc import ABC, abstractmethod
-from collections.abc import Mapping
 from contextlib import AbstractContextManager, suppress
-from dataclasses import dataclass, field
-from typing import Any, Protocol, Sequence
+from dataclasses import dataclass
+from typing import Protocol, Sequence
 
 from e1gw_common.answers import CommandAnswer
 from e1gw_common.faults import words_of_fault
 from e1gw_common.session import whole_records
-from ..holder_state import ACTIVE, STANDBY
+from ..clock import ClockStatus
+from ..crc4 import Crc4Status
+from ..status import PairStatus, TransportStatus
 from .connection import connected
 from .blocks import KeptBlocks
 from .missed import MissedReports, replay_reports
@@ -42,27 +43,6 @@ class WatchedPlaces(Protocol):
 
 
 @dataclass(frozen=True)
-class PairFacts:
-    """Of a trunk that two machines have: whether this one stands by; whether the standby has all, and how many seconds
-    ago it had; of a standby, why it is not fed, and which circuits are configured otherwise at the other machine."""
-
-    stands: bool
-    fed: bool
-    feed_age: float | None
-    feed_fault: str | None = None
-    differs: tuple[int, ...] = ()
-
-    @property
-    def role(self) -> str:
-        return STANDBY if self.stands else ACTIVE
-
-    def plain(self) -> dict[str, object]:
-        """As plain values of a status."""
-        its = {'feed_fault': self.feed_fault, 'differs': [*self.differs]} if self.stands else {}
-        return {'role': self.role, 'fed': self.fed, 'feed_age': self.feed_age, **its}
-
-
-@dataclass(frozen=True)
 class TrunkFacts:
     """What a holder says of a trunk: since when it is open, or why it is not; its program's version, whom that hears,
     and how many logs were lost; circuits that are configured otherwise once their calls end; why nothing is recorded
@@ -75,8 +55,9 @@ class TrunkFacts:
     log_losses: int = 0
     waiting: tuple[int, ...] = ()
     session: str | None = None
-    carried: Mapping[str, object] = field(default_factory=dict)
-    pair: PairFacts | None = None
+    transport: TransportStatus = TransportStatus()
+    crc4: Crc4Status | None = None
+    pair: PairStatus | None = None
 
 
 class WatchedTrunk(ABC):
@@ -145,7 +126,7 @@ class WatchedTrunk(ABC):
 
     # ---- what its log says ----
 
-    def flow(self) -> dict[str, Any]:
+    def flow(self) -> ClockStatus:
         """Gaps and the rate of its octets."""
         return self.reader.clock.status()
 

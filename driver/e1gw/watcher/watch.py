@@ -11,14 +11,13 @@ import time
 from collections import Counter, deque
 from dataclasses import dataclass, field, replace
 from itertools import islice
-from typing import Any
 
-from e1gw_common.answers import DONE, AnswerWord, CommandAnswer, refused_by
+from e1gw_common.answers import DONE, AnswerWord, CommandAnswer, CommandCount, refused_by
 from e1gw_common.call_lines import FIELDS
 from e1gw_common.line_files import EventFile, has_line
 from e1gw_common.lines import Role, State
 from e1gw_common.report import json_line
-from e1gw_common.session import Codec, Command, codec_record, command_record
+from e1gw_common.session import CIRCUITS, Codec, Command, codec_record, command_record
 from e1gw_common.tasks import Tasks, retry, run_periodically, report_failure, has_failed
 from e1gw_common.unix_listener import CannotListen, unix_listener
 from e1gw_common.web import web_listener
@@ -30,6 +29,7 @@ from ..deaf import DeafCalls
 from ..events import (LAST, Burst, CallsCleared, CommandGiven, Event, LineChanged, RateChanged, ReadEvent, ReadEvents,
                       Slip, WatchEnded, WrongRate)
 from ..resyncs import Resyncs
+from ..status import TrunkFiles, TrunkStatus
 from .commands import MOST_LINE, CommandServer
 from .connection import NoAnswer, ProgramConnection
 from .blocks import BlockWatch
@@ -38,7 +38,7 @@ from .idle_reloads import IdleReloadWatch
 from .journal import NOTICE, tell_journal
 from .page import PageNotes
 from .http_pages import TrunkPages, TrunkServer
-from .tell_client import WATCH, TrunkStatus
+from .tell_client import WATCH, TellClient
 from .trunk import WatchedTrunk
 
 TICK = 0.24                 # seconds between two looks
@@ -67,12 +67,10 @@ class WatchWants:
     picture: list[str] = field(default_factory=list)
     kept: str | None = None
 
-    def files(self) -> dict[str, Any]:
-        """What it is made of, where it is kept and shown, for a status."""
-        events = None if self.json == '-' else self.json
-        return {'config_file': os.path.abspath(self.config), 'calls_file': self.calls and os.path.abspath(self.calls),
-                'events_file': events and os.path.abspath(events),
-                'session_path': self.session and os.path.abspath(self.session), 'http': self.http}
+    def files(self) -> TrunkFiles:
+        calls, events, session = (path and os.path.abspath(path) for path in (
+            self.calls, None if self.json == '-' else self.json, self.session))
+        return TrunkFiles(os.path.abspath(self.config), calls, events, session, self.http)
 
 
 @dataclass(frozen=True)
@@ -98,13 +96,13 @@ class TrunkWatch:
         self.ended: dict[str, str | None] = dict.fromkeys(BESIDE)
         self._restarts = Resyncs(self.restart, self.tell)
         self.counts, self._deaf = DatagramCounts(report_failure(self._restarts.counted, WATCH)), DeafCalls(self.tell)
-        self.status = TrunkStatus(trunk, wants.name, self.tell, self.counts, self._put_call)
+        self.status = TellClient(trunk, wants.name, self.tell, self.counts, self._put_call)
         self._lines = self.status.lines
         self._program = ProgramConnection(lambda: trunk.places().control, self.status.set_connected, self.status.wake,
                                           lambda: trunk.facts().fault)
         self._lines.commanded = report_failure(self._program.on_record, WATCH)
         self._events, self._ended_calls = ReadEvents(), deque[str](maxlen=LAST)
-        self.pages = TrunkPages(self._values, self.status.take_now, list(self._lines.lines.values()),
+        self.pages = TrunkPages(self.known, self.status.take_now, list(self._lines.lines.values()),
                                 PageNotes(self._events.last, self._ended_calls, wants.kept))
         self._server = CommandServer(self)
         self.blocks = BlockWatch(trunk.blocks(), self._lines, self.give, self.tell)
@@ -199,7 +197,7 @@ class TrunkWatch:
 
     def _put_call(self, line: str) -> None:
         pair = self.trunk.facts().pair
-        if not (pair and pair.stands):
+        if not (pair and pair.stands_by):
             self._ended_calls.appendleft(line)
             if self._calls:
                 self._calls.put(line)
@@ -259,25 +257,20 @@ class TrunkWatch:
         else:
             logger.log(NOTICE, '%s: written again', what)
 
-    def _values(self) -> dict[str, Any]:
-        """All that is known, as plain values."""
-        now, facts, wants, known = time.time(), self.trunk.facts(), self.wants, self.status.values()
-        fault = facts.fault or None
-        status: dict[str, Any] = {
-            **known, 'name': wants.name, 'version': facts.version, 'time': round(now, 3), 'fault': fault,
-            'senders': facts.senders, 'log_losses': facts.log_losses,
-            'uptime': 0.0 if fault else round(now - facts.since, 3),
-            'calls': [line._asdict() for line in self.status.calls.open_calls()],
-            **wants.files(), 'stale': self.counts.stale(), 'ended': self.ended | {'session': facts.session},
-            'renewed': self._resyncs, 'alarms': self._events.alarms(), 'waiting': self._reloads.waiting(),
-            'commands': [{'command': name, 'answer': answer, 'count': n}
-                         for (name, answer), n in sorted(self._done.items())],
-            'clock': self.trunk.flow() | known['clock'], **facts.carried, **(facts.pair.plain() if facts.pair else {})}
-        for row in status['circuits']:
-            n = row['circuit']
-            row.update(self.counts.status(n) | {'blocked': self.blocks.kept.now.word(n),
-                                                'deaf': self._deaf.causes.get(n)})
-        return status
+    def known(self) -> TrunkStatus:
+        """All that is known."""
+        now, facts, known, blocks = time.time(), self.trunk.facts(), self.status, self.blocks.kept.now
+        return TrunkStatus(
+            name=self.wants.name, version=facts.version, senders=facts.senders, time=round(now, 3),
+            uptime=0.0 if facts.fault else round(now - facts.since, 3), fault=facts.fault or None,
+            files=self.wants.files(), told=known.told(), pair=facts.pair, transport=facts.transport, crc4=facts.crc4,
+            clock=known.flow.status(self.trunk.flow()), calls=(*known.calls.open_calls(),),
+            alarms=(*self._events.active_alarms().values(),),
+            circuits=tuple(replace(row, blocked=blocks.word(n), deaf=self._deaf.causes.get(n))
+                           for n, row in zip(CIRCUITS, self._lines.rows())),
+            waiting=facts.waiting, ended=self.ended | {'session': facts.session}, stale=self.counts.stale(),
+            renewed=self._resyncs, log_losses=facts.log_losses,
+            commands=tuple(CommandCount(*words, count) for words, count in sorted(self._done.items())))
 
     # ---- the whole ----
 
