@@ -5,7 +5,8 @@ import re
 import tomllib
 from typing import Collection
 
-from e1gw_common.lines import lines_of
+from e1gw_common.lines import TrunkConfig
+from e1gw_common.plain import typed
 
 
 def with_codec(text: str, circuit: int, codec: str, payload: int) -> str:
@@ -23,7 +24,7 @@ def with_codec(text: str, circuit: int, codec: str, payload: int) -> str:
         else:
             pieces[at] = number.sub(lambda found: f'{found[0]}\n{key} = {value}', pieces[at])
     edited = ''.join(pieces)
-    if lines_of(tomllib.loads(edited))[circuit].configured != (codec, payload):
+    if typed(TrunkConfig, tomllib.loads(edited)).lines()[circuit].configured != (codec, payload):
         raise ValueError(f'circuit {circuit} is written in a way that is not edited here')
     return edited
 

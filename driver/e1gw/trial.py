@@ -13,17 +13,18 @@ import sys
 import threading
 import tomllib
 from contextlib import closing
-from dataclasses import dataclass
+from dataclasses import dataclass, replace
 from importlib import import_module
 from typing import Any, Callable, Collection, Iterable, Mapping, Sequence, TypeVar
 
 from e1gw_common.config_faults import config_words
 from e1gw_common.fault_words import words_of_fault
-from e1gw_common.lines import IN_CALL, circuit_words, config_text, lines_of, no_peers, tables_of
+from e1gw_common.lines import IN_CALL, SEIZURE_WAIT, TrunkConfig, circuit_words, config_text, no_peers, wait_words
+from e1gw_common.plain import typed
 from e1gw_common.session import CIRCUITS
 from e1gw_common.writers import put_file
 from .holder.log import remove
-from .holder.version import NOT_PROVED, Tried, tried_in
+from .holder.version import NOT_PROVED, Tried
 from .log_folder import LogFiles, LogPair, LogWriter
 from .memory import in_memory
 
@@ -32,8 +33,25 @@ MOST_ENDED = 3              # calls that a reload may end without force
 PORTS = 'local_port', 'peer_port'
 NEW = re.compile(r'circuit (\d+) begins as new')
 
-Asked = Mapping[str, Any]   # what a holder asks
 T = TypeVar('T')
+
+@dataclass(frozen=True, kw_only=True)
+class Asked:
+    """What a holder asks: a program, and the one before it, as descriptors; what was tried before; the paths of a
+    configuration (or its text, to save a state), a log and a state; options; and how long each step may take."""
+
+    what: str
+    seconds: float
+    program: int = -1
+    program_before: int = -1
+    before: Tried | None = None
+    config: str = ''
+    log: str = ''
+    state: str = ''
+    senders: str = ''
+    wait: int = SEIZURE_WAIT
+    force: bool = False
+    when_idle: bool = False
 
 
 class TrialRefused(Exception):
@@ -49,10 +67,10 @@ class TrialLater(Exception):
 def run(asked: Asked, program: int, words: Sequence[str], config: str, begun: LogPair | None) -> tuple[int, str, str]:
     """Runs a program to its end, over the records behind a state if there is one: its status, what it says, and what it
     writes."""
-    wait, seconds = asked['wait'], asked['seconds']
+    wait, seconds = asked.wait, asked.seconds
     files = [in_memory(config.encode()), in_memory(begun.state if begun else b'')]
     load = ['--load', f'/dev/fd/{files[1]}'] if begun else []
-    its = ['e1gw', words[0], '--config', f'/dev/fd/{files[0]}', *['--seizure-wait', str(wait)] * (wait != 200),
+    its = ['e1gw', words[0], '--config', f'/dev/fd/{files[0]}', *wait_words(wait),
            *words[1:], *load]
     try:
         done = subprocess.run(its, executable=f'/proc/self/fd/{program}', input=begun.records if begun else b'',
@@ -88,9 +106,9 @@ def check(asked: Asked, program: int, config: str, begun: LogPair | None) -> Che
 
 def version_name(asked: Asked) -> str:
     """The version that a program says; nothing if it says none. What was built without proof has it in its name."""
-    program = asked['program']
+    program = asked.program
     done = subprocess.run(['e1gw', '--version'], executable=f'/proc/self/fd/{program}', pass_fds=[program],
-                          stdin=subprocess.DEVNULL, capture_output=True, timeout=asked['seconds'], check=False)
+                          stdin=subprocess.DEVNULL, capture_output=True, timeout=asked.seconds, check=False)
     name, _, version = done.stdout.decode(errors='replace').strip().partition(' ')
     if name != 'e1gw':
         return ''
@@ -157,12 +175,10 @@ def in_pieces(tables: Mapping[str, Any], senders: str, name: str) -> Tried:
     """A configuration as a holder has it."""
     def piece(table: Mapping[str, Any]) -> str:
         return config_text({'circuit': [table]})
-    host, circuits = str(tables.get('host', '127.0.0.1')), tables_of(tables)
     return Tried(config_text({key: value for key, value in tables.items() if key != 'circuit'}),
-                 {n: (piece(table), piece({key: value for key, value in table.items() if key not in PORTS}))
-                  for n, (_, table) in circuits.items()},
-                 {n: (host, table['local_port']) for n, (_, table) in circuits.items() if 'local_port' in table},
-                 senders, name)
+                 {table['number']: (piece(table), piece({key: table[key] for key in table if key not in PORTS}))
+                  for table in tables.get('circuit', ())},
+                 {n: address for address, n in typed(TrunkConfig, tables).addresses().items()}, senders, name)
 
 
 # ---- what is asked ----
@@ -195,32 +211,32 @@ class ReloadEffects:
         return len(self.affected_calls) > MOST_ENDED and not force
 
 
-def try_version(asked: Asked) -> dict[str, Any]:
+def try_version(asked: Asked) -> dict[str, object]:
     """Tries a version, behind one before it if there is one."""
-    program, config = asked['program'], asked['config']
+    program, config = asked.program, asked.config
     text, name = read(config), version_name(asked)
     try:
         check(asked, program, text, None)       # (before any Python reads it)
-        tables = with_addresses(tomllib.loads(text), asked['seconds'])
-        if why := no_peers(tables):
+        tables = with_addresses(tomllib.loads(text), asked.seconds)
+        if why := no_peers(typed(TrunkConfig, tables)):
             raise TrialRefused(why)
     except TrialRefused as fault:
         cause = config_words(config)
         raise TrialRefused(f'{fault}: {cause}' if cause else str(fault)) from None
-    version, log = in_pieces(tables, asked['senders'], name), last_of(asked['log'])
+    version, log = in_pieces(tables, asked.senders, name), last_of(asked.log)
     found = check(asked, program, version.config(), log)
-    if not asked['before']:
+    if not (before := asked.before):
         return {'tried': version._asdict(), 'told': ''}
-    before, now = tried_in(asked['before']), circuits_now(asked, log)
+    now = circuits_now(asked, before, log)
     calls = now.calls | found.calls
     hurt = ReloadEffects(calls, found.new, frozenset(before.ports), frozenset(version.ports)).affected_calls
-    if wait := {n for n in hurt if asked['when_idle'] or has_codec(before, version, n, now.codecs)}:
+    if wait := {n for n in hurt if asked.when_idle or has_codec(before, version, n, now.codecs)}:
         if version.head != before.head:
             raise TrialRefused('law and host are of all circuits, and wait for no call')
         version = keep_circuits(version, before, wait)
         found = check(asked, program, version.config(), log)
     runs = is_same_file(asked) and version._replace(wait=before.wait) == before
-    return {'tried': version._asdict(), 'told': describe_effects(asked, version, found.new, calls),
+    return {'tried': version._asdict(), 'told': describe_effects(asked.force, before, version, found.new, calls),
             'changes': describe_changes(before, version), 'runs': runs}
 
 
@@ -232,11 +248,10 @@ def keep_circuits(version: Tried, before: Tried, circuits: Collection[int]) -> T
                             wait=tuple(sorted(circuits)))
 
 
-def circuits_now(asked: Asked, log: LogPair | None) -> Checked:
+def circuits_now(asked: Asked, before: Tried, log: LogPair | None) -> Checked:
     """How the circuits stand with the configuration before, by either program. If neither says it, all may be in a
     call."""
-    before = tried_in(asked['before'])
-    for program in asked['program'], asked['program_before']:
+    for program in asked.program, asked.program_before:
         try:
             return check(asked, program, before.config(), log)
         except (TrialRefused, TrialLater, OSError):
@@ -248,15 +263,14 @@ def has_codec(before: Tried, version: Tried, circuit: int, codecs: Mapping[int, 
     """Whether a circuit has the codec of its new table already, and nothing else of that is new."""
     if not all(circuit in each.circuits for each in (before, version)):
         return False
-    old, new = (tomllib.loads(each.head + each.circuits[circuit][1]) for each in (before, version))
-    is_alike = all(old['circuit'][0].get(key) == new['circuit'][0].get(key)
-                   for key in {*old['circuit'][0], *new['circuit'][0]} - {'codec', 'payload'})
-    return is_alike and codecs.get(circuit) == lines_of(new)[circuit].configured
+    old, new = (typed(TrunkConfig, tomllib.loads(each.head + each.circuits[circuit][1])) for each in (before, version))
+    own, its = (replace(each.circuit[0], codec=None, payload=None) for each in (old, new))
+    return own == its and codecs.get(circuit) == new.lines()[circuit].configured
 
 
 def is_same_file(asked: Asked) -> bool:
     """Whether the program is the file that runs."""
-    now, before = (os.fstat(asked[key]) for key in ('program', 'program_before'))
+    now, before = map(os.fstat, (asked.program, asked.program_before))
     return os.path.samestat(now, before) and (now.st_size, now.st_mtime_ns) == (before.st_size, before.st_mtime_ns)
 
 
@@ -269,10 +283,10 @@ def describe_changes(before: Tried, version: Tried) -> str:
                       *[f'circuits {circuit_words(version.wait)} are when their calls end'] * bool(version.wait)])
 
 
-def describe_effects(asked: Asked, version: Tried, new: frozenset[int], calls: frozenset[int]) -> str:
+def describe_effects(force: bool, before: Tried, version: Tried, new: frozenset[int], calls: frozenset[int]) -> str:
     """What a reload does to calls, in words. TrialRefused if that is too much."""
-    found = ReloadEffects(calls, new, frozenset(tried_in(asked['before']).ports), frozenset(version.ports))
-    if found.is_refused(asked['force']):
+    found = ReloadEffects(calls, new, frozenset(before.ports), frozenset(version.ports))
+    if found.is_refused(force):
         raise TrialRefused(f'it would end {calls_in(found.affected_calls)}: '
                            'reload --when-idle waits for them, reload force does')
     return '; '.join([*[f'it ends {calls_in(found.ended_calls)}'] * bool(found.ended_calls),
@@ -294,46 +308,47 @@ def last_of(folder: str) -> LogPair | None:
         return None
 
 
-def load_state(asked: Asked) -> dict[str, Any]:
+def load_state(asked: Asked) -> dict[str, object]:
     """Begins a log with the state that was saved in a file: all of it, or nothing."""
-    with open(asked['state'], 'rb') as file:
+    with open(asked.state, 'rb') as file:
         octets = file.read()
-    remove(new := f'{asked["log"]}.new')
+    remove(new := f'{asked.log}.new')
     with closing(LogWriter(new)) as writer:
         writer.begin(0, octets)
-    remove(asked['log'])
-    os.rename(new, asked['log'])
+    remove(asked.log)
+    os.rename(new, asked.log)
     return {}
 
 
-def save_state(asked: Asked) -> dict[str, Any]:
+def save_state(asked: Asked) -> dict[str, object]:
     """Puts the state behind a whole log into a file, whole and up to the disk."""
-    if log := last_of(asked['log']):
-        new = f'{asked["state"]}.new'
-        status, said, _ = run(asked, asked['program'], ['replay', '--save', new], asked['config'], log)
+    if log := last_of(asked.log):
+        new = f'{asked.state}.new'
+        status, said, _ = run(asked, asked.program, ['replay', '--save', new], asked.config, log)
         if status:
             raise OSError(0, said or f'status {status}')
         with open(new, 'rb') as file:
             octets = file.read()
         os.unlink(new)
-        put_file(asked['state'], octets, 0o640, is_synced=True)
+        put_file(asked.state, octets, 0o640, is_synced=True)
     return {}
 
 
-def try_start(asked: Asked) -> dict[str, Any]:
+def try_start(asked: Asked) -> dict[str, object]:
     """The holder of now could begin."""
     import_module('.holder.main', __package__)
     return {}
 
 
-DOES: Mapping[str, Callable[[Asked], dict[str, Any]]] = {
+DOES: Mapping[str, Callable[[Asked], dict[str, object]]] = {
     'try': try_version, 'load': load_state, 'save': save_state, 'begin': try_start}
 
 
-def answer(asked: Asked) -> dict[str, Any]:
+def answer(plain: object) -> dict[str, object]:
     """What is answered: what was found; why it is refused; or why it cannot be done now."""
+    asked = typed(Asked, plain)
     try:
-        return DOES[asked['what']](asked)
+        return DOES[asked.what](asked)
     except TrialRefused as fault:
         return {'refused': str(fault)}
     except (ValueError, RecursionError) as fault:

@@ -11,6 +11,9 @@ import tomllib
 from dataclasses import dataclass
 from typing import Any, Callable, Iterator
 
+from .lines import CircuitConfig, TrunkConfig
+from .plain import typed
+
 LONGEST, DEEPEST = 65_536, 80
 MOST_SHOWN = 120            # characters of a value, or of the TOML reader's words
 KINDS = {'Syntax': 1, 'UnknownKey': 2, 'Missing': 3, 'WrongType': 4, 'OutOfRange': 5, 'Twice': 6, 'LawCodec': 7,
@@ -199,8 +202,8 @@ def check_circuit(table: dict[str, Any], place: int, law: str, before: list[dict
                 raise ConfigFault('Twice', place, name, f'{name} {table[name]} is also that of table {at}')
 
 
-def check(octets: bytes) -> dict[str, Any]:
-    """The table of a configuration, or ConfigFault."""
+def check(octets: bytes) -> TrunkConfig:
+    """The configuration that octets are, or ConfigFault."""
     table = parsed(octets)
     check_names(table, 0, TOP_KEYS)
     for name, key in TOP_KEYS.items():
@@ -210,7 +213,7 @@ def check(octets: bytes) -> dict[str, Any]:
         raise ConfigFault('WrongType', 0, 'circuit', 'circuit has to be a list of tables that begin with [[circuit]]')
     for place, circuit in enumerate(circuits, 1):
         check_circuit(circuit, place, table['law'], circuits[:place - 1])
-    return table
+    return typed(TrunkConfig, table)
 
 
 # ---- the sockets ----
@@ -239,25 +242,24 @@ def bind_socket(host: str, port: int) -> socket.socket:
         raise ValueError(why.get(error.errno or 0, str(error))) from error
 
 
-def socket_fault(host: str, circuit: dict[str, Any]) -> str | None:
+def socket_fault(host: str, port: int, circuit: CircuitConfig) -> str | None:
     """Why a circuit's socket cannot be opened, or None."""
     try:
-        family, _ = address(host, circuit['local_port'], 'host')
-        peer, _ = address(circuit.get('peer_host', '127.0.0.1'), circuit['peer_port'], 'peer_host')
+        family, _ = address(host, port, 'host')
+        peer, _ = address(circuit.peer_host, circuit.peer_port or 0, 'peer_host')
         if family != peer:
-            return f'host "{host}" and peer_host "{circuit["peer_host"]}" are of different address families'
-        bind_socket(host, circuit['local_port']).close()
+            return f'host "{host}" and peer_host "{circuit.peer_host}" are of different address families'
+        bind_socket(host, port).close()
     except ValueError as error:
         return str(error)
     return None
 
 
-def socket_faults(table: dict[str, Any]) -> Iterator[tuple[int, str]]:
+def socket_faults(config: TrunkConfig) -> Iterator[tuple[int, str]]:
     """Opens each socket by itself, in the order of the circuits: those that cannot be opened, and why."""
-    with_ports = [circuit for circuit in table.get('circuit', []) if 'local_port' in circuit]
-    for circuit in sorted(with_ports, key=lambda it: int(it['number'])):
-        if why := socket_fault(table.get('host', '127.0.0.1'), circuit):
-            yield circuit['number'], why
+    for n, circuit in sorted(config.circuits().items()):
+        if circuit.local_port and (why := socket_fault(config.host, circuit.local_port, circuit)):
+            yield n, why
 
 
 # ---- the words ----

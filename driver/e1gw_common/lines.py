@@ -7,10 +7,11 @@ from dataclasses import astuple, dataclass
 from enum import StrEnum
 from typing import Any, Iterable, Mapping
 
-from .session import CIRCUITS, SAMPLES_A_SECOND, Codec, Command
+from .plain import typed
+from .session import CIRCUITS, SAMPLES_A_SECOND, Command
 
 SEIZURE_WAIT = 200          # milliseconds after which a seizure is released, if nothing else is asked for
-WAIT = 'seizure_wait'       # the name of that time next to the tables of a configuration
+WAIT = 'seizure_wait'       # the name of that time in what is said of a file that is kept
 
 
 class Role(StrEnum):
@@ -171,29 +172,63 @@ def circuit_words(circuits: Iterable[int]) -> str:
     return ', '.join('-'.join(map(str, each)) for each in ranges)
 
 
-def read_config(path: str) -> dict[str, Any]:
-    """The tables of a configuration, e1gw.toml(5)."""
+@dataclass(frozen=True)
+class CircuitConfig:
+    """A circuit of a configuration, e1gw.toml(5)."""
+
+    number: int
+    role: Role = Role.OUTGOING
+    codec: str | None = None            # without one that of the law
+    payload: int | None = None
+    ptime: int = 20
+    prefill: int = 0
+    ssrc: int | None = None
+    sequence: int = 0
+    timestamp: int = 0
+    local_port: int | None = None
+    peer_port: int | None = None
+    peer_host: str = '127.0.0.1'
+
+
+@dataclass(frozen=True)
+class TrunkConfig:
+    """A configuration."""
+
+    law: str = 'A'
+    host: str = '127.0.0.1'
+    circuit: tuple[CircuitConfig, ...] = ()
+
+    def circuits(self) -> dict[int, CircuitConfig]:
+        return {each.number: each for each in self.circuit}
+
+    def addresses(self) -> dict[tuple[str, int], int]:
+        """The circuit of each address and port here."""
+        return {(self.host, each.local_port): each.number for each in self.circuit if each.local_port}
+
+    def differing(self, other: TrunkConfig) -> frozenset[int]:
+        """Circuits that another one configures otherwise."""
+        own, its = self.circuits(), other.circuits()
+        return frozenset(n for n in CIRCUITS if (self.law, own.get(n)) != (other.law, its.get(n)))
+
+    def lines(self) -> dict[int, Line]:
+        """The thirty lines, as a session begins."""
+        law, found = ('pcma', 8) if self.law == 'A' else ('pcmu', 0), dict[int, Line]()
+        for n in CIRCUITS:
+            its = self.circuits().get(n, CircuitConfig(n))
+            coding = its.codec or law[0], law[1] if its.payload is None else its.payload
+            found[n] = Line(n, its.role, *coding, its.prefill, its.local_port, configured=coding)
+        return found
+
+
+def read_config(path: str) -> TrunkConfig:
+    """That of a file. OSError or ValueError if there is none."""
     with open(path, 'rb') as file:
-        return tomllib.load(file)
-
-
-def with_wait(config: Mapping[str, Any], wait: int) -> dict[str, Any]:
-    """The same tables, and the milliseconds after which a seizure is released, which no file has."""
-    return {**config, WAIT: wait}
+        return typed(TrunkConfig, tomllib.load(file))
 
 
 def wait_words(wait: int) -> list[str]:
     """The option by which the program has this wait."""
     return ['--seizure-wait', str(wait)] * (wait != SEIZURE_WAIT)
-
-
-def law_of(config: Mapping[str, Any]) -> str:
-    return str(config.get('law', 'A'))
-
-
-def tables_of(config: Mapping[str, Any]) -> dict[int, Any]:
-    """How each circuit is configured that has a table."""
-    return {table['number']: (law_of(config), table) for table in config.get('circuit', [])}
 
 
 def no_peer(host: str) -> str:
@@ -209,11 +244,11 @@ def no_peer(host: str) -> str:
     return ''
 
 
-def no_peers(config: Mapping[str, Any]) -> str:
+def no_peers(config: TrunkConfig) -> str:
     """The first circuit whose peer nobody can be, and why; nothing if there is none."""
-    for n, (_, table) in sorted(tables_of(config).items()):
-        if why := no_peer(str(table.get('peer_host', ''))):
-            return f'circuit {n}: peer_host {table["peer_host"]} {why}'
+    for n, its in sorted(config.circuits().items()):
+        if why := no_peer(its.peer_host):
+            return f'circuit {n}: peer_host {its.peer_host} {why}'
     return ''
 
 
@@ -233,19 +268,3 @@ def config_text(config: Mapping[str, Any]) -> str:
         return f'{name} = {quoted(value) if isinstance(value, str) else value}\n'
     tables = [{key: value for key, value in config.items() if key != 'circuit'}, *config.get('circuit', [])]
     return '[[circuit]]\n'.join(''.join(line(*each) for each in table.items()) for table in tables)
-
-
-def lines_of(config: Mapping[str, Any]) -> dict[int, Line]:
-    """The thirty lines of a configuration, as a session begins."""
-    law = law_of(config)
-    lines = {n: Line(n, codec=Codec.G711.word(law), payload=8 if law == 'A' else 0) for n in CIRCUITS}
-    for table in config.get('circuit', []):
-        line = lines[table['number']]
-        line.role = Role(table.get('role', line.role))
-        line.codec = table.get('codec', line.codec)
-        line.payload = table.get('payload', line.payload)
-        line.prefill = table.get('prefill', line.prefill)
-        line.port = table.get('local_port')
-    for line in lines.values():
-        line.configured = line.codec, line.payload
-    return lines

@@ -6,8 +6,8 @@ from collections import Counter, deque
 from collections.abc import Iterator, Mapping
 from itertools import islice
 from statistics import median
-from typing import Any
 
+from e1gw_common.lines import TrunkConfig
 from e1gw_common.packets import Datagram, datagrams
 from e1gw_common.session import FRAME, OCTETS_A_SECOND, Kind, datagram_record, trunk_record
 from e1gw_common.session_files import InputError
@@ -19,26 +19,26 @@ MOST_ADDRESSES = 8          # of a circuit, and of strays
 PACKET = 1600               # samples of a datagram at most: the first one may begin before the session
 
 
-def ports(config: Mapping[str, Any]) -> dict[int, int]:
+def ports(config: TrunkConfig) -> dict[int, int]:
     """The circuit of each local port."""
-    return {table['local_port']: table['number'] for table in config.get('circuit', []) if 'local_port' in table}
+    return {port: circuit for (_, port), circuit in config.addresses().items()}
 
 
 class CaptureClock:
     """The time of the session's first octet, by the times at which the gateway's datagrams left: the last word of one
     with timestamp s and n words was received in frame s + n, so as many octets of the trunk were before it."""
 
-    def __init__(self, config: Mapping[str, Any], before: int) -> None:
-        self.tables = {table['number']: table for table in config.get('circuit', [])}
+    def __init__(self, config: TrunkConfig, before: int) -> None:
+        self.circuits = config.circuits()
         self.near: deque[float] = deque(maxlen=NEAR)
         self.begin: float | None = None
         self.before = before // FRAME
 
     def sent(self, circuit: int, datagram: Datagram) -> None:
-        table = self.tables[circuit]
-        stamp = int.from_bytes(datagram.body[4:8], 'big') - table.get('timestamp', 0) - self.before
+        its = self.circuits[circuit]
+        stamp = int.from_bytes(datagram.body[4:8], 'big') - its.timestamp - self.before
         stamp = (stamp + PACKET & 0xFFFF_FFFF) - PACKET
-        self.near.append(datagram.time - (stamp + 8 * table.get('ptime', 20)) * FRAME / OCTETS_A_SECOND)
+        self.near.append(datagram.time - (stamp + 8 * its.ptime) * FRAME / OCTETS_A_SECOND)
         if len(self.near) % 10 == 1 or self.begin is None:
             self.begin = median(self.near)
 
@@ -49,9 +49,9 @@ class CaptureClock:
 class Ways:
     """Notes the addresses of datagrams in both directions."""
 
-    def __init__(self, facts: Facts, config: Mapping[str, Any]) -> None:
+    def __init__(self, facts: Facts, config: TrunkConfig) -> None:
         self.facts, self.circuits = facts, ports(config)
-        self.known = set(self.circuits) | {table.get('peer_port') for table in config.get('circuit', [])}
+        self.known = set(self.circuits) | {its.peer_port for its in config.circuit}
         for circuit in self.circuits.values():
             facts.rows[circuit].wire = Wire()
 
@@ -99,7 +99,7 @@ def arrivals(path: str, clock: CaptureClock, ways: Ways) -> Iterator[tuple[int, 
             yield clock.place(each.time), ways.circuits[each.target], each.body
 
 
-def merged(octets: Iterator[bytes], path: str, config: Mapping[str, Any], facts: Facts,
+def merged(octets: Iterator[bytes], path: str, config: TrunkConfig, facts: Facts,
            begin: float | None = None, before: int = 0) -> tuple[Iterator[bytes], float]:
     """A session with the datagrams of a capture, each at its place on the trunk, and the time of its first octet,
     behind this number of octets of the trunk. The addresses are noted in the facts."""

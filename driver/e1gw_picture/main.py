@@ -9,7 +9,7 @@ from collections.abc import Callable, Iterator
 
 from e1gw_common.faults import Parser, checked
 from e1gw_common.frames import raw_words_of
-from e1gw_common.lines import read_config, with_wait
+from e1gw_common.lines import read_config
 from e1gw_common.session import OCTETS_A_SECOND, circuits_of
 from e1gw_common.session_clock import second_of
 from e1gw_common.session_files import InputError, RecordedSession
@@ -97,7 +97,7 @@ class Progress:
 def facts_of(begun: Begun, last: int | None = None) -> Facts:
     """The facts known of a session before it is read."""
     session, place = begun.session, begun.place
-    facts = Facts(rows_of(with_wait(read_config(begun.config), begun.session.wait)), last)
+    facts = Facts(rows_of(read_config(begun.config), begun.session.wait), last)
     facts.slips = session.slips and [(place + at, seconds) for at, seconds in session.slips]
     facts.breaks = [each.shifted(place) for each in session.breaks]
     facts.begin = None if session.begin is None else session.begin - place / OCTETS_A_SECOND

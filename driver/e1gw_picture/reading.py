@@ -3,10 +3,9 @@ from __future__ import annotations
 
 import re
 from collections import deque
-from collections.abc import Callable, Iterable, Iterator, Mapping
-from typing import Any
+from collections.abc import Callable, Iterable, Iterator
 
-from e1gw_common.lines import SEIZURE_WAIT, WAIT, lines_of
+from e1gw_common.lines import SEIZURE_WAIT, TrunkConfig
 from e1gw_common.session import MULTIFRAME, Codec, Command, Kind, refusal_of, trunk_record
 from e1gw_common.session_files import InputError
 from .facts import Facts, Row
@@ -23,17 +22,15 @@ ONES_OF_A_MULTIFRAME, ONES = b'\xff' * MULTIFRAME, re.compile(b'\xff{512,}')
 TELLS = ['e1gw', 'tell', '1']       # how the reports begin
 
 
-def rows_of(config: Mapping[str, Any]) -> dict[int, Row]:
-    """The circuits of a configuration."""
-    wait = config.get(WAIT, SEIZURE_WAIT)
+def rows_of(config: TrunkConfig, wait: int = SEIZURE_WAIT) -> dict[int, Row]:
+    """The circuits of a configuration, whose seizures are released after this wait."""
     rows = {n: Row(n, str(line.role), line.codec, line.payload, line.prefill, wait=wait)
-            for n, line in lines_of(config).items()}
-    for table in config.get('circuit', []):
-        row = rows[table['number']]
-        row.ptime = table.get('ptime', row.ptime)
-        if 'local_port' in table:
-            row.local = f'{config.get("host", "127.0.0.1")}:{table["local_port"]}'
-            row.peer = f'{table.get("peer_host", "127.0.0.1")}:{table.get("peer_port", "")}'
+            for n, line in config.lines().items()}
+    for its in config.circuit:
+        row = rows[its.number]
+        row.ptime = its.ptime
+        if its.local_port:
+            row.local, row.peer = f'{config.host}:{its.local_port}', f'{its.peer_host}:{its.peer_port or ""}'
     return rows
 
 

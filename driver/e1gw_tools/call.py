@@ -20,15 +20,15 @@ import glob
 import os
 import sys
 from collections import deque
-from collections.abc import Callable, Iterable, Iterator, Mapping
+from collections.abc import Callable, Iterable, Iterator
 from dataclasses import dataclass
 from functools import partial
-from typing import Any, NamedTuple
+from typing import NamedTuple
 
 from e1gw_common.call_lines import CallLine, csv_line, moment, read_calls
 from e1gw_common.faults import Parser, words_of_fault
 from e1gw_common.frames import FrameSearch
-from e1gw_common.lines import IN_CALL, read_config
+from e1gw_common.lines import IN_CALL, TrunkConfig, read_config
 from e1gw_common.session import (FRAME, OCTETS_A_SECOND, SAMPLES_A_SECOND, BadSession, Kind, Record, records_for,
                                  records_in, refusal_of)
 from e1gw_common.session_clock import Break, SessionClock, second_of
@@ -198,7 +198,7 @@ class CallCut:
     reading: CallReading
     first: int
     last: int
-    tables: Mapping[str, Any]       # the configuration
+    config: TrunkConfig
 
     @property
     def clock(self) -> SessionClock:
@@ -214,7 +214,7 @@ class CallCut:
             with open(paths[0], 'wb') as file:
                 write_wave(self._speech(), facts.law, file, 2)
             with open(paths[1], 'wb') as file:
-                codecs = Announcements(facts.law, {circuit: self.reading.codec}, partial(configured_ends, self.tables))
+                codecs = Announcements(facts.law, {circuit: self.reading.codec}, partial(configured_ends, self.config))
                 write_capture(packets_of(self._timed(), circuit, codecs), file)
             with open(paths[2], 'w', encoding='utf-8') as text:
                 text.writelines(f'{line}\n' for line in self._signals())

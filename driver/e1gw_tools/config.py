@@ -26,7 +26,7 @@ from e1gw_common.config_faults import CODECS, ConfigFault, check, read_octets, r
 from e1gw_common.faults import Parser, number, words_of_fault
 from e1gw_common.lines import no_peers
 from e1gw_common.session import CIRCUITS
-from .config_ports import EXAMPLE, NamedPorts, addresses_of, is_bound, trunks_in
+from .config_ports import EXAMPLE, NamedPorts, is_bound, trunks_in
 
 FIRST, APART, TRUNKS = 24_002, 100, 64      # ports of a trunk: for each circuit one for RTP and the next one unused
 SAME_HOST = 10_000                          # ports between the two ends of a tie on one machine
@@ -217,7 +217,7 @@ def clashes_of(paths: list[str]) -> Iterator[str]:
     taken = dict[tuple[str, int], tuple[str, int]]()
     for path in paths:
         clashes: dict[str, list[tuple[int, str, int]]] = {}
-        for (host, port), circuit in addresses_of(check(read_octets(path))).items():
+        for (host, port), circuit in check(read_octets(path)).addresses().items():
             other, far = taken.setdefault((host, port), (path, circuit))
             if other != path:
                 clashes.setdefault(other, []).append((circuit, f'{host}:{port}', far))
@@ -227,13 +227,13 @@ def clashes_of(paths: list[str]) -> Iterator[str]:
 
 def open_sockets(paths: list[str]) -> int:
     """Opens the sockets of each file, and prints the first of each that cannot be opened. Returns the status."""
-    tables, status = {path: check(read_octets(path)) for path in paths}, 0
-    for path, table in tables.items():
-        if found := next(socket_faults(table), None):
+    configs, status = {path: check(read_octets(path)) for path in paths}, 0
+    for path, config in configs.items():
+        if found := next(socket_faults(config), None):
             print(f'socket {found[0]}\n  {path}: {found[1]}')
             status = 1
     if not status:
-        print(f'{sum(len(addresses_of(table)) for table in tables.values())} sockets can be opened')
+        print(f'{sum(len(config.addresses()) for config in configs.values())} sockets can be opened')
     return status
 
 

@@ -8,25 +8,17 @@ import socket
 from collections.abc import Iterable
 from contextlib import suppress
 from dataclasses import dataclass
-from typing import Any
 
 from e1gw_common.config_faults import ConfigFault, check, read_octets
+from e1gw_common.lines import TrunkConfig
 
 EXAMPLE = 'example'         # of the package: no unit has that name, so its ports are free
 HTTP = re.compile(r'--http[ =]\S*:(\d+)')
 
 
-def addresses_of(table: dict[str, Any]) -> dict[tuple[str, int], int]:
-    """The address and port of each circuit that has them."""
-    host = table.get('host', '127.0.0.1')
-    return {(host, circuit['local_port']): circuit['number'] for circuit in table.get('circuit', [])
-            if 'local_port' in circuit}
-
-
-def peer_ports(table: dict[str, Any], host: str) -> set[int]:
+def peer_ports(config: TrunkConfig, host: str) -> set[int]:
     """The ports of peers that are at a host."""
-    return {circuit['peer_port'] for circuit in table.get('circuit', [])
-            if 'peer_port' in circuit and circuit.get('peer_host', '127.0.0.1') == host}
+    return {each.peer_port for each in config.circuit if each.peer_port and each.peer_host == host}
 
 
 @dataclass(frozen=True)
@@ -42,8 +34,8 @@ class NamedPorts:
         rtp, http = set[int](), set[int]()
         for path in (os.path.join(folder, name) for name in names):
             with suppress(OSError, ConfigFault):
-                table = check(read_octets(f'{path}.toml'))
-                rtp |= {port for _, port in addresses_of(table)} | peer_ports(table, host)
+                config = check(read_octets(f'{path}.toml'))
+                rtp |= {port for _, port in config.addresses()} | peer_ports(config, host)
             with suppress(OSError, UnicodeDecodeError), open(f'{path}.options', encoding='utf-8') as file:
                 http |= {int(port) for port in HTTP.findall(file.read())}
         return cls(frozenset(rtp), frozenset(http))

@@ -29,10 +29,10 @@ import sys
 from contextlib import suppress
 from dataclasses import replace
 from ipaddress import ip_address
-from typing import Any, BinaryIO, Callable, Iterable, Iterator, Mapping, NamedTuple
+from typing import BinaryIO, Callable, Iterable, Iterator, NamedTuple
 
 from e1gw_common.faults import Parser, checked, words_of_fault
-from e1gw_common.lines import law_of, lines_of, read_config
+from e1gw_common.lines import TrunkConfig, read_config
 from e1gw_common.packets import BadCapture, packets
 from e1gw_common.session import (CIRCUITS, SAMPLES_A_SECOND, BadPacket, BadSession, Kind, Record, Repetitions,
                                  datagram_record, packet_of, records)
@@ -110,17 +110,15 @@ def address_of(host: str) -> bytes:
     return b''
 
 
-def configured_ends(tables: Mapping[str, Any], circuit: int) -> PcapEnds:
+def configured_ends(config: TrunkConfig, circuit: int) -> PcapEnds:
     """The ends that a configuration gives a circuit. For a host that is a name, or any address, there is one for
     examples, and for a circuit without ports both are."""
-    own = [each for each in tables.get('circuit', []) if each['number'] == circuit]
-    table: Mapping[str, Any] = own[0] if own else {}
-    if 'local_port' not in table:
+    its = config.circuits().get(circuit)
+    if not (its and its.local_port and its.peer_port):
         return example_ends(circuit)
-    here = address_of(tables.get('host', '127.0.0.1'))
-    there = address_of(table.get('peer_host', '127.0.0.1'))
+    here, there = address_of(config.host), address_of(its.peer_host)
     near, far = NEUTRAL if len(here or there) == 16 else (GATEWAY, PEER)
-    return PcapEnds((here or near, table['local_port']), (there or far, table['peer_port']))
+    return PcapEnds((here or near, its.local_port), (there or far, its.peer_port))
 
 
 class Timed(NamedTuple):
@@ -261,11 +259,11 @@ def write_session(asked: argparse.Namespace, sink: BinaryIO) -> None:
     dated = given if given and given.begin is not None else answers
     clock = dated.clock if asked.begin is None else replace(dated.clock, begin=asked.begin)
     streams = [timed(each.octets(), clock, each is answers) for each in (answers, given) if each]
-    config = asked.config or (dated.config if dated.config and os.path.exists(dated.config) else None)
-    tables = read_config(config) if config else {}
-    codecs = {n: (line.codec, line.payload) for n, line in lines_of(tables).items()} if config else {}
+    path = asked.config or (dated.config if dated.config and os.path.exists(dated.config) else None)
+    config = read_config(path) if path else TrunkConfig()
+    codecs = {n: line.configured for n, line in config.lines().items()} if path else {}
     write_capture(packets_of(heapq.merge(*streams, key=lambda each: each.time), asked.circuit,
-                             Announcements(law_of(tables), codecs)), sink)
+                             Announcements(config.law, codecs)), sink)
 
 
 # ---- and back ----

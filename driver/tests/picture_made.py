@@ -19,6 +19,8 @@ from .support import TOP, Exchange, config_text, program, run
 
 from e1gw_tools.far_exchange import ACKNOWLEDGED, ANSWERED, IDLE
 from e1gw_common.g711 import TONES, VALUES
+from e1gw_common.lines import TrunkConfig
+from e1gw_common.plain import typed
 from e1gw_picture.facts import Facts
 from e1gw_picture.reading import SessionReading, rows_of
 from e1gw_picture.replay import Replay
@@ -60,7 +62,7 @@ def read_session(config: str, given: bytes, last: int | None = None) -> Facts:
     """The facts of a session with this configuration."""
     with configured(config) as path:
         replay = Replay(program(), path)
-    facts = Facts(rows_of(tomllib.loads(config)), last)
+    facts = Facts(rows_of(typed(TrunkConfig, tomllib.loads(config))), last)
     SessionReading(facts, replay, program()).read([given])
     if word := replay.end():
         raise AssertionError(word)

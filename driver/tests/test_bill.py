@@ -8,7 +8,6 @@ import csv
 import os
 import pickle
 import random
-import tomllib
 from dataclasses import dataclass
 from datetime import datetime
 from types import SimpleNamespace
@@ -22,7 +21,7 @@ from e1gw import call_names, log_folder
 from e1gw_common.call_lines import FIELDS
 from e1gw.counts import DatagramCounts
 from e1gw.events import Event, LineChanged
-from e1gw_common.lines import IN_CALL, Role, State
+from e1gw_common.lines import IN_CALL, CircuitConfig, Role, State, TrunkConfig
 from e1gw.log_folder import LogPair, LogWriter
 from e1gw.watcher import reader as readers, tell_client as statuses, trunk as trunks
 from e1gw.watcher.reader import ReadingNote
@@ -85,7 +84,7 @@ class CalledSession:
     def __init__(self) -> None:
         dice = random.Random(7)
         self.roles = {n: Role.INCOMING if n % 2 else Role.OUTGOING for n in CIRCUITS}
-        self.tables = tomllib.loads(support.config_text({n: {'role': str(role)} for n, role in self.roles.items()}))
+        self.config = TrunkConfig(circuit=tuple(CircuitConfig(n, role) for n, role in self.roles.items()))
         self.calls, self._going = list[PlayedCall](), dict[int, PlayedCall]()
         self._steps = {n: self._planned(self.roles[n], dice) for n in CALLED}
         self._packets = dict.fromkeys(CIRCUITS, 0)
@@ -400,7 +399,7 @@ class BillTests(PropertyCase):
             put_file(path, octets)
         for module, name, its in ((statuses, 'time', clock), (readers, 'time', clock), (call_names, 'put_file', puts),
                                   (trunks, 'replay_reports', trunk.replay_reports),
-                                  (statuses, 'read_config', lambda path: self.session.tables)):
+                                  (statuses, 'read_config', lambda path: self.session.config)):
             held.enter_context(mock.patch.object(module, name, its))
         trunk.serves()
         return held

@@ -16,6 +16,7 @@ from .picture_made import GATEWAY, PEER, PROGRESS, MadeSession, PictureSender, p
 from .properties import PropertyCase
 from .test_picture_beginning import BEGIN, RingCase
 from e1gw_common.call_lines import FIELDS, CallLine, csv_line, moment
+from e1gw_common.lines import CircuitConfig, TrunkConfig
 from e1gw_common.packets import datagrams
 from e1gw_picture.facts import Facts
 from e1gw_common.session import OCTETS_A_SECOND, Command, Kind, datagram_record, records_in
@@ -129,7 +130,7 @@ class CallCutTests(unittest.TestCase):
         facts = Facts()
         facts.breaks = [Break(OCTETS_A_SECOND, 2.0, 2.0), Break(OCTETS_A_SECOND * 3 // 2, 3600.0, 0.25)]
         call, reading = EndedCall('1f-3-1', 'west', 3, 0.5, 2.0), mock.Mock(facts=facts, given=given, answered=answered)
-        speech = CallCut(call, reading, OCTETS_A_SECOND // 2, 2 * OCTETS_A_SECOND, {})._speech()
+        speech = CallCut(call, reading, OCTETS_A_SECOND // 2, 2 * OCTETS_A_SECOND, TrunkConfig())._speech()
         self.assertEqual(bytes(speech), b'\1\2' * 4000 + b'\xd5\xd5' * 16_000 + b'\1\2' * 4000 + b'\xd5\xd5' * 2000
                          + b'\1\2' * 3000 + b'\1\xd5' * 1000)
 
@@ -139,11 +140,11 @@ class CallCutTests(unittest.TestCase):
                 ('192.0.2.10', '198.51.100.20', ('192.0.2.10', '198.51.100.20')),
                 ('0.0.0.0', 'pbx.example', ('192.0.2.1', '192.0.2.2')), ('::1', 'pbx.example', ('::1', '2001:db8::2')),
                 ('::', '2001:db8::9', ('2001:db8::1', '2001:db8::9'))):
-            table = {'number': 3, 'local_port': 24006, 'peer_host': peer, 'peer_port': 34006}
-            found = (its := partial(configured_ends, {'host': host, 'circuit': [table]}))(3)
+            config = TrunkConfig('A', host, (CircuitConfig(3, local_port=24006, peer_host=peer, peer_port=34006),))
+            found = (its := partial(configured_ends, config))(3)
             here, there = (ip_address(each).packed for each in ends)
             self.assertEqual(found, ((here, 24006), (there, 34006)))
-            self.assertEqual(configured_ends({'circuit': [table]}, 4), ((GATEWAY, 5008), (PEER, 5008)))
+            self.assertEqual(configured_ends(config, 4), ((GATEWAY, 5008), (PEER, 5008)))
             datagram, file = b'\x80\x60' + bytes(10) + b'speech!', io.BytesIO()
             (record,) = records_in(datagram_record(3, datagram))
             write_capture(packets_of([Timed(n, record, went) for n, went in enumerate((True, False))], 3,

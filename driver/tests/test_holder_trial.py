@@ -12,8 +12,9 @@ from . import support
 from .support import config_text
 from e1gw import trial
 from e1gw.holder.job import Job
-from e1gw.holder.version import tried_in
+from e1gw.holder.version import Tried, tried_in
 from e1gw.log_folder import LogFiles
+from e1gw_common.plain import typed
 
 CONFIG = config_text({1: {'role': 'incoming', 'local_port': 5000, 'peer_port': 5002, 'peer_host': 'localhost'},
                       2: {'role': 'outgoing'}})
@@ -73,7 +74,7 @@ class TrialTests(support.FolderCase):
         with mock.patch('socket.getaddrinfo', side_effect=OSError(2, 'Name or service not known')):
             self.assertEqual(trial.answer(self.asked()), {'later': 'localhost: Name or service not known'})
         with mock.patch('threading.Thread.start'), mock.patch('threading.Thread.join'):
-            self.assertRegex(trial.answer(self.asked())['later'], 'names are not looked up within .*: localhost')
+            self.assertRegex(str(trial.answer(self.asked())['later']), 'names are not looked up within .*: localhost')
 
     def test_one_that_dies(self) -> None:
         """Nothing waits for it."""
@@ -103,18 +104,17 @@ class TrialTests(support.FolderCase):
 
     def test_what_a_reload_ends(self) -> None:
         """More than three calls want force."""
-        before = {'head': 'law = "A"\n', 'circuits': {}, 'ports': {str(n): ['h', n] for n in range(1, 5)},
-                  'senders': 'host', 'name': ''}
-        version = tried_in({**before, 'ports': {}})
+        before = Tried('law = "A"\n', {}, {n: ('h', n) for n in range(1, 5)}, 'host', '')
+        version = before._replace(ports={})
         for new, calls, force, words in (
                 ((), (), False, ''),
                 ((1, 2), (1, 2, 3), False, 'it ends 2 calls .circuits 1, 2.; it takes the ports of 1 calls'),
                 ((1, 2, 3, 4), (1, 2, 3, 4), True, 'it ends 4 calls'),
                 ((1, 2, 3, 4), (1, 2, 3), False, 'it ends 3 calls')):
-            self.assertRegex(trial.describe_effects(self.asked(before=before, force=force), version, frozenset(new),
-                                           frozenset(calls)), f'^{words}')
+            self.assertRegex(trial.describe_effects(force, before, version, frozenset(new), frozenset(calls)),
+                             f'^{words}')
         with self.assertRaisesRegex(trial.TrialRefused, 'it would end 4 calls .*: reload --when-idle waits'):
-            trial.describe_effects(self.asked(before=before), version, frozenset((1, 2)), frozenset((1, 2, 3, 4)))
+            trial.describe_effects(False, before, version, frozenset((1, 2)), frozenset((1, 2, 3, 4)))
 
     def test_what_waits(self) -> None:
         """Circuits in a call keep their table until its end if that is asked, and if they have its codec already; law
@@ -134,7 +134,7 @@ class TrialTests(support.FolderCase):
         def found(config: str, **more: Any) -> tuple[list[int], str, str, bool]:
             path = self.write('new.toml', config)
             asked = self.asked(**{'config': path, 'before': before._asdict(), 'program_before': self.file} | more)
-            its = trial.try_version(asked)
+            its: Any = trial.try_version(typed(trial.Asked, asked))
             self.assertEqual([n for n in before.circuits if its['tried']['circuits'][n] == before.circuits[n]],
                              [*its['tried']['wait']] or ([1, 2, 3] if its['runs'] else []))
             return [*its['tried']['wait']], its['told'], its['changes'], its['runs']
@@ -156,7 +156,8 @@ class TrialTests(support.FolderCase):
         copy = shutil.copy2(support.program(), self.path('copy'))
         for path, is_same in (support.program(), True), (copy, False):
             with open(path, 'rb') as other:
-                self.assertEqual(trial.is_same_file(self.asked(program_before=other.fileno())), is_same)
+                asked = self.asked(program_before=other.fileno())
+                self.assertEqual(trial.is_same_file(typed(trial.Asked, asked)), is_same)
 
     def test_what_can_begin(self) -> None:
         self.assertEqual(self.answer(what='begin'), {})

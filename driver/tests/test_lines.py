@@ -3,12 +3,11 @@ from __future__ import annotations
 
 import tomllib
 import unittest
-from typing import Any
 
 from .properties import PropertyCase
-from e1gw_common.lines import (IN_CALL, OPEN, PAIRS, SEIZURE_WAIT, WAIT, Line, Role, State, config_text, law_of,
-                               lines_of, no_peer, no_peers, tables_of, wait_words, with_wait)
-from e1gw_common.plain import plain_of
+from e1gw_common.lines import (IN_CALL, OPEN, PAIRS, SEIZURE_WAIT, CircuitConfig, Line, Role, State, TrunkConfig,
+                               config_text, no_peer, no_peers, wait_words)
+from e1gw_common.plain import plain_of, typed
 from e1gw_common.session import Command
 
 
@@ -53,26 +52,33 @@ class LineTests(unittest.TestCase):
         self.assertEqual((OPEN | {State.SEIZED}, SEIZURE_WAIT), (IN_CALL, 200))
 
     def test_lines_of_a_configuration(self) -> None:
-        config: dict[str, Any] = {'law': 'mu', 'circuit': [
-            {'number': 2, 'role': 'incoming', 'codec': 'g726-16', 'payload': 96, 'prefill': 160, 'local_port': 4000}]}
-        lines = lines_of(config)
+        config = typed(TrunkConfig, {'law': 'mu', 'circuit': [
+            {'number': 2, 'role': 'incoming', 'codec': 'g726-16', 'payload': 96, 'prefill': 160, 'local_port': 4000}]})
+        lines = config.lines()
         self.assertEqual([*lines], [*range(1, 31)])
         self.assertEqual(lines[2], Line(2, Role.INCOMING, 'g726-16', 96, 160, 4000, configured=('g726-16', 96)))
         self.assertEqual(lines[1], Line(1, codec='pcmu', payload=0, configured=('pcmu', 0)))
-        self.assertEqual(lines_of({})[30], Line(30, codec='pcma', payload=8, configured=('pcma', 8)))
-        self.assertEqual((law_of({}), law_of(config)), ('A', 'mu'))
-        self.assertEqual(tables_of(config), {2: ('mu', config['circuit'][0])})
-        self.assertEqual((with_wait({'law': 'A', WAIT: 1}, 7), wait_words(200), wait_words(7)),
-                         ({'law': 'A', WAIT: 7}, [], ['--seizure-wait', '7']))
+        self.assertEqual(TrunkConfig().lines()[30], Line(30, codec='pcma', payload=8, configured=('pcma', 8)))
+        self.assertEqual((config.circuits()[2].peer_host, config.addresses()), ('127.0.0.1', {('127.0.0.1', 4000): 2}))
+        self.assertEqual((wait_words(200), wait_words(7)), ([], ['--seizure-wait', '7']))
+
+    def test_circuits_that_are_configured_otherwise(self) -> None:
+        """Another law is of all; what is written that would be so without it is no other."""
+        own, its = TrunkConfig(circuit=(CircuitConfig(1), CircuitConfig(2))), CircuitConfig(2, ssrc=7)
+        for other, circuits in ((own, ()), (TrunkConfig('A', '::1', (its, CircuitConfig(1))), (2,)),
+                                (TrunkConfig(circuit=(CircuitConfig(1, sequence=0),)), (2,)),
+                                (TrunkConfig('mu', circuit=own.circuit), range(1, 31))):
+            self.assertEqual(own.differing(other), {*circuits})
 
     def test_peers(self) -> None:
         for host, why in (('192.0.2.1', ''), ('peer.example', ''), ('::1', ''), ('224.0.0.1', 'is a multicast address'),
                           ('ff02::1', 'is a multicast address'), ('0.0.0.0', 'is the address of no machine'),
                           ('::', 'is the address of no machine'), ('255.255.255.255', 'is the address of no machine')):
             self.assertEqual(no_peer(host), why, host)
-        circuits = [{'number': 9, 'peer_host': '::'}, {'number': 4, 'peer_host': '0.0.0.0'}, {'number': 2}]
-        self.assertEqual(no_peers({'circuit': circuits}), 'circuit 4: peer_host 0.0.0.0 is the address of no machine')
-        self.assertEqual(no_peers({'circuit': circuits[2:]}), '')
+        circuits = CircuitConfig(9, peer_host='::'), CircuitConfig(4, peer_host='0.0.0.0'), CircuitConfig(2)
+        words = 'circuit 4: peer_host 0.0.0.0 is the address of no machine'
+        self.assertEqual(no_peers(TrunkConfig(circuit=circuits)), words)
+        self.assertEqual(no_peers(TrunkConfig(circuit=circuits[2:])), '')
 
     def test_what_no_configuration_has(self) -> None:
         for value in (True, 1.5, None, [1]):

@@ -41,7 +41,7 @@ class FolderOwnTests(FolderCase):
             self.write(os.path.basename(words[-1]), 'x')
             return 0, '', ''
         calls = mock.Mock()
-        asked = {'log': '', 'state': self.path('state'), 'program': 0, 'config': ''}
+        asked = trial.Asked(what='save', seconds=1.0, state=self.path('state'))
         with mock.patch.multiple(trial, run=run, last_of=mock.Mock(return_value=LogPair(1, 0, b'', b''))), \
                 mock.patch.multiple(os, fsync=calls.fsync, replace=calls.replace):
             trial.save_state(asked)

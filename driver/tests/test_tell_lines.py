@@ -10,7 +10,7 @@ from . import support
 from e1gw.counts import DatagramCounts
 from e1gw.events import Disconnected, Event, LineChanged
 from e1gw.watcher.tell_lines import BadTelling, TrunkState
-from e1gw_common.lines import State
+from e1gw_common.lines import CircuitConfig, State, TrunkConfig
 from e1gw_common.plain import plain_of
 from e1gw_common.session import DatagramRefusal
 from e1gw.watcher import tell_client
@@ -38,7 +38,7 @@ class ToldTests(unittest.TestCase):
         self.now, self.events = 100.0, list[dict[str, Any]]()
         self.counted: list[tuple[int, ...]] = []
         self.counts = DatagramCounts(lambda *answer: self.counted.append(answer))
-        self.told = TrunkState({'law': 'A', 'circuit': [{'number': 1, 'prefill': 320}]}, self.hears,
+        self.told = TrunkState(TrunkConfig(circuit=(CircuitConfig(1, prefill=320),)), self.hears,
                                self.counts, lambda: self.now)
         self.told.begin()
         self.take(*BEGIN, 'now')
@@ -81,7 +81,7 @@ class ToldTests(unittest.TestCase):
 
     def test_nothing_was_told_yet(self) -> None:
         """No circuit is in fault for that."""
-        told = TrunkState({'law': 'A'}, self.hears, self.counts)
+        told = TrunkState(TrunkConfig(), self.hears, self.counts)
         self.assertEqual({row.line.state for row in told.rows()}, {State.UNKNOWN})
 
     def test_a_row_of_the_manual(self) -> None:

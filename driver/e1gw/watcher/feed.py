@@ -9,12 +9,13 @@ import logging
 import ssl
 import struct
 import time
+import tomllib
 from contextlib import closing, suppress
 from dataclasses import dataclass
+from operator import itemgetter
 from typing import TYPE_CHECKING, Any
 
 from e1gw_common.faults import words_of_fault
-from e1gw_common.lines import law_of, read_config, tables_of
 from e1gw_common.tasks import Tasks
 from ..log_folder import STATE_ROOM, FolderReader, LogBegun, LogFiles, LogPiece
 
@@ -47,9 +48,11 @@ class FeedRefused(Exception):
 
 def configured(path: str) -> tuple[str, dict[str, Any]]:
     """The law of a configuration, and its circuits by their numbers, without what may differ elsewhere."""
-    tables = read_config(path)
-    return law_of(tables), {str(n): {key: value for key, value in table.items() if key not in ELSEWHERE}
-                            for n, (_, table) in sorted(tables_of(tables).items())}
+    with open(path, 'rb') as file:
+        tables = tomllib.load(file)
+    circuits = sorted(tables.get('circuit', ()), key=itemgetter('number'))
+    return tables.get('law', 'A'), {str(its['number']): {key: its[key] for key in its if key not in ELSEWHERE}
+                                    for its in circuits}
 
 
 @dataclass(frozen=True)

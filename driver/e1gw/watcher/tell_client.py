@@ -10,8 +10,8 @@ from dataclasses import dataclass, replace
 from typing import Callable
 
 from e1gw_common.faults import words_of_fault
-from e1gw_common.lines import Alignment, read_config, tables_of
-from e1gw_common.session import CIRCUITS, OCTETS_A_SECOND
+from e1gw_common.lines import Alignment, read_config
+from e1gw_common.session import OCTETS_A_SECOND
 from e1gw_common.tasks import next_beat, report_failure
 from ..calls import CallLog, CallsNote
 from ..counts import DatagramCounts
@@ -52,14 +52,13 @@ class TellClient:
     def __init__(self, trunk: WatchedTrunk, name: str, tell: Tell, counts: DatagramCounts,
                  put: Callable[[str], None]) -> None:
         self._trunk, self.tell = trunk, tell
-        tables = read_config(trunk.config_path())
-        self.lines = TrunkState(tables, report_failure(self._on_event, WATCH), counts, time.monotonic,
+        self._config = read_config(trunk.config_path())
+        self.lines = TrunkState(self._config, report_failure(self._on_event, WATCH), counts, time.monotonic,
                                 report_failure(self._told_all, WATCH))
         self.calls = CallLog(name, self.lines.lines, counts, put, self._day)
         self.is_followed: Callable[[], bool] = lambda: False
         self.start = time.monotonic()
         self.naming = CallNames(note_of(trunk.places().tell))
-        self._tables = tables_of(tables)
         self._connected = dict.fromkeys(BOTH, False)
         self._stands: bool | None = None        # whether it is connected with the program, as was told
         self._stood: bool | None = None         # .. by the process before this one
@@ -240,10 +239,10 @@ class TellClient:
     async def on_connect(self, line: socket.socket, session: str, place: int) -> None:
         """There is a connection, at which a program, whose session has this name, tells the state at an octet."""
         self._session = session
-        with suppress(OSError, ValueError, KeyError, TypeError):
-            self.lines.configure(config := read_config(self._trunk.config_path()))
-            before, self._tables = self._tables, tables_of(config)
-            self.calls.changed = frozenset(n for n in CIRCUITS if before.get(n) != self._tables.get(n))
+        with suppress(OSError, ValueError):
+            before, self._config = self._config, read_config(self._trunk.config_path())
+            self.lines.configure(self._config)
+            self.calls.changed = before.differing(self._config)
         await self._catch_up(place)
         self.flow, self._line = replace(self.flow, moved=time.monotonic()), line
         self.lines.begin(self._trunk.start_octet())

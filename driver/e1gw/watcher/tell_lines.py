@@ -2,9 +2,9 @@
 from __future__ import annotations
 
 import time
-from typing import Any, Callable, Mapping
+from typing import Callable
 
-from e1gw_common.lines import IN_CALL, LEADS, OPEN, PAIRS, Alignment, Line, Role, State, law_of, lines_of
+from e1gw_common.lines import IN_CALL, LEADS, OPEN, PAIRS, Alignment, Line, Role, State, TrunkConfig
 from e1gw_common.session import Codec, Command, codec_record, command_record
 from ..counts import DatagramCounts, ToldCounts
 from ..events import (AlarmChanged, AlignmentFound, AlignmentLost, CodecChanged, LineChanged, Placed,
@@ -24,9 +24,9 @@ class TrunkState:
     """The lines and the alarms of a trunk, as a program tells them. Its clock is this machine's. `tell` is called with
     each change, `began` with each whole state."""
 
-    def __init__(self, config: Mapping[str, Any], tell: Callable[[Placed], None], counts: DatagramCounts,
+    def __init__(self, config: TrunkConfig, tell: Callable[[Placed], None], counts: DatagramCounts,
                  clock: Callable[[], float] = time.monotonic, began: Callable[[], None] = lambda: None) -> None:
-        self.law, self.lines, self.tell = law_of(config), lines_of(config), tell
+        self.law, self.lines, self.tell = config.law, config.lines(), tell
         self.counts, self.began, self._clock = counts, began, clock
         self.commanded: Callable[[bytes], None] = lambda record: None   # called with each C and K record that was given
         self.place = 0                      # octets of the trunk so far
@@ -75,15 +75,15 @@ class TrunkState:
         self._led.clear()
         self.seizures = {}
 
-    def configure(self, config: Mapping[str, Any]) -> None:
+    def configure(self, config: TrunkConfig) -> None:
         """This is the configuration of the program that tells from now on."""
-        for n, line in lines_of(config).items():
+        for n, line in config.lines().items():
             its = self.lines[n]
             its.prefill, its.port, its.configured = line.prefill, line.port, line.configured
 
     def replay_until(self, place: int, clock: Callable[[], float]) -> TrunkState:
         """What is told of these lines, from this place on, by another one that tells, with counts of its own."""
-        again = TrunkState({}, self.tell, DatagramCounts(), clock)
+        again = TrunkState(TrunkConfig(), self.tell, DatagramCounts(), clock)
         again.lines, again.alarms, again.remote, again.losses = self.lines, self.alarms, self.remote, self.losses
         again.known = self.known
         again.begin(place)
