@@ -49,6 +49,7 @@ class PlainTests(unittest.TestCase):
     def test_of_another_version(self) -> None:
         """What is not there has its default, and what is not known is left out."""
         self.assertEqual(typed(Whole, {'later': [7]}), Whole(None))
+        self.assertEqual(typed(Whole, {'for': [1]}), Whole(None, for_=(1.0,)))
         self.assertEqual(typed(Counted, {'first': 1, 'a': 2, 'b': 'c', 'd': True}), Counted(1, {'a': 2}))
 
     def test_what_is_of_another_type(self) -> None:

@@ -4,6 +4,7 @@ from __future__ import annotations
 import argparse
 import contextlib
 import io
+import json
 import os
 import re
 import unittest
@@ -19,7 +20,7 @@ from e1gw.events import (AlarmChanged, BlockNews, Burst, CallsCleared, CardAlarm
                          SlotsChanged, LogLost, Stalled, TrunkLost, TrunkOpened, WatchEnded, WrongRate)
 from e1gw_common.faults import Parser, checked, named, number, options_words, words_of_fault, words_of_refusal
 from e1gw_common.lines import Alignment, Role, State
-from e1gw_common.plain import typed
+from e1gw_common.plain import plain_of, typed
 from e1gw_common.session import CommandRefusal
 from e1gw.status import TrunkStatus
 from e1gw_tie import status as tie_status
@@ -42,6 +43,7 @@ STATUS: dict[str, Any] = {
     'losses': {'frame': 21, 'multiframe': 22}, 'clock': {'stalled': False, 'stalls': 23}, 'circuits': [ROW, IDLE],
     'stale': False, 'renewed': 24, 'ended': {'json': None, 'session': None},
     'commands': [{'command': 'seize', 'answer': 'done', 'count': 25}]}
+DEEP = 'clock', 'crc4', 'transport', 'circuits'
 CRC4 = {'aligned': True, 'submultiframes': 31, 'errored': 32, 'far_end_errored': 33, 'multiframes_found': 34,
         'multiframes_lost': 35, 'given_up': 36}
 CARD = {'span': 2, 'recovering': 0, 'loopback': 1, 'yellow': 0, 'red': 1, 'blue': 0, 'not_open': 0, 'bit_errors': 37}
@@ -139,6 +141,18 @@ def samples(text: str) -> dict[str, str]:
 
 
 class TrunkTextTests(unittest.TestCase):
+    def test_json(self) -> None:
+        """It has the keys of which it was read, each with its value, and what is read of it is that status."""
+        for plain in STATUS, FULL, STATUS | {'transport': {'trunk': 'a', 'satop': 'x', 'received': 1, 'silent': 0}}, \
+                STATUS | {'transport': {'trunk': 'a', 'slots': 'clear', 'silent': True, 'slots_lost': 1}}:
+            its = plain_of(known(plain))
+            self.assertEqual(known(json.loads(json.dumps(its))), known(plain))
+            self.assertEqual({key: its[key] for key in plain if key not in DEEP}, {
+                key: plain[key] for key in plain if key not in DEEP})
+            for key in (key for key in DEEP[:-1] if plain.get(key)):
+                self.assertEqual({each: its[key][each] for each in plain[key]}, plain[key])
+            self.assertEqual([{key: row[key] for key in ROW} for row in its['circuits']], [ROW, IDLE])
+
     def test_metrics(self) -> None:
         """Each number is another one. Of a circuit's row that is idle only what differs is looked at."""
         text = metrics.exposition(known(FULL))
