@@ -9,10 +9,12 @@ import time
 from collections import deque
 from concurrent.futures import ThreadPoolExecutor
 from contextlib import suppress
+from dataclasses import replace
 from typing import Any, Iterable, Sequence
 
+from e1gw_common.plain import plain_of
 from e1gw_common.session import OCTETS_A_SECOND
-from e1gw_common.session_files import by_time, read_object
+from e1gw_common.session_files import FileAbout, by_time, read_about
 from e1gw_common.writers import put_file
 from .priority import run_last
 
@@ -51,7 +53,7 @@ class Ring:
         """`own` are files that this session has already, without their endings, and their places on the trunk."""
         self._folder, self._name, self._keep = folder, name, keep * OCTETS_A_SECOND
         self.own = tuple((str(front), int(place)) for front, place in own)
-        self._about, self._front = dict[str, Any](), ''     # of the file that is written
+        self._about, self._front = FileAbout(), ''          # of the file that is written
         self.zstd = shutil.which('zstd')
         self._packs = ThreadPoolExecutor(1)
 
@@ -62,11 +64,12 @@ class Ring:
         self.own = *self.own, (front, place)
         return front
 
-    def begin(self, front: str, about: dict[str, Any], state: bytes) -> None:
+    def begin(self, front: str, about: FileAbout, state: bytes) -> None:
         """The last file is written from now on. What is there of it stays; else this is what is said of it."""
         os.makedirs(self._folder, mode=0o750, exist_ok=True)
-        before = {'after': os.path.basename(its) for its, _ in self.own[-2:-1]}
-        self._front, self._about = front, read_object(f'{front}.json') or about | before
+        before = next((os.path.basename(its) for its, _ in self.own[-2:-1]), None)
+        there = read_about(front)
+        self._front, self._about = front, replace(about, after=before) if there == FileAbout() else there
         if state and not os.path.exists(f'{front}{STATE}'):
             put_file(f'{front}{STATE}', state, 0o640)
         self._put_about()
@@ -77,19 +80,16 @@ class Ring:
     def continue_file(self, front: str) -> None:
         """A file of the session before this one is written on."""
         if front != self._front:
-            self._front, self._about = front, read_object(f'{front}.json')
+            self._front, self._about = front, read_about(front)
 
     def note(self, slips: deque[tuple[int, float]]) -> None:
         """Notes slips at once: a reader sees what was noted before, or all of it."""
-        noted = self._about.setdefault('slips', [])
-        while slips:
-            slip = slips.popleft()
-            if len(noted) < MOST_SLIPS:
-                noted.append(slip)
+        its = [slips.popleft() for _ in range(len(slips))]
+        self._about = replace(self._about, slips=(*self._about.slips, *its)[:MOST_SLIPS])
         self._put_about()
 
     def _put_about(self) -> None:
-        put_file(f'{self._front}.json', json.dumps(self._about).encode() + b'\n', 0o640, '.part')
+        put_file(f'{self._front}.json', json.dumps(plain_of(self._about)).encode() + b'\n', 0o640, '.part')
 
     def _pack(self, zstd: str) -> None:
         """Compresses the files that are whole and are not yet, in a thread of its own."""

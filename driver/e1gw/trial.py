@@ -35,6 +35,7 @@ NEW = re.compile(r'circuit (\d+) begins as new')
 
 T = TypeVar('T')
 
+
 @dataclass(frozen=True, kw_only=True)
 class Asked:
     """What a holder asks: a program, and the one before it, as descriptors; what was tried before; the paths of a

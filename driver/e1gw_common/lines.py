@@ -11,7 +11,6 @@ from .plain import typed
 from .session import CIRCUITS, SAMPLES_A_SECOND, Command
 
 SEIZURE_WAIT = 200          # milliseconds after which a seizure is released, if nothing else is asked for
-WAIT = 'seizure_wait'       # the name of that time in what is said of a file that is kept
 
 
 class Role(StrEnum):

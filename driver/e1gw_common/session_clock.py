@@ -2,13 +2,13 @@
 from __future__ import annotations
 
 import bisect
-from collections.abc import Iterator, Mapping, Sequence
+from collections.abc import Iterator, Sequence
 from dataclasses import dataclass, replace
 from datetime import datetime, time, timedelta, timezone
 from functools import cached_property
 from itertools import accumulate
 from math import inf
-from typing import Any, NamedTuple
+from typing import NamedTuple
 
 from .session import OCTETS_A_SECOND
 
@@ -99,14 +99,6 @@ class FileNote:
     time: float
     monotonic: float
     slips: tuple[tuple[int, float], ...]
-
-    @classmethod
-    def from_json(cls, about: Mapping[str, Any]) -> FileNote | None:
-        """None if it does not say its place and its time."""
-        if 'place' not in about or 'time' not in about:
-            return None
-        slips = tuple((int(place), float(seconds)) for place, seconds in about.get('slips', ()))
-        return cls(about['place'], about['time'], about.get('monotonic', 0.0), slips)
 
     def since(self, before: FileNote) -> float:
         """The seconds since another file began, by the monotonic clock, which nobody sets; behind a boot, and without

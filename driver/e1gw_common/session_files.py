@@ -7,10 +7,13 @@ import shutil
 import subprocess
 import sys
 from collections.abc import Iterator
+from contextlib import suppress
 from dataclasses import dataclass, field, replace
-from typing import IO, Any
+from enum import StrEnum
+from typing import IO
 
-from .lines import SEIZURE_WAIT, WAIT
+from .lines import SEIZURE_WAIT
+from .plain import typed
 from .session_clock import Break, FileNote, SessionClock, breaks_of, slips_of
 
 PIECE = 1 << 16
@@ -19,6 +22,34 @@ ENDINGS = ('.e1gw', '.e1gw.zst', '.rec', '.rec.zst')
 
 class InputError(Exception):
     """Why something can't be read or drawn, in words."""
+
+
+class FileStart(StrEnum):
+    """Whether a file begins where the gateway did."""
+
+    START = 'start'
+    MIDDLE = 'middle'
+
+
+@dataclass(frozen=True)
+class FileAbout:
+    """What is said of a file of a ring in its .json (e1gw-watch(1))."""
+
+    config: str | None = None
+    config_sha256: str | None = None
+    time: float | None = None
+    monotonic: float = 0.0
+    place: int | None = None
+    seizure_wait: int = SEIZURE_WAIT
+    begins: FileStart | None = None
+    after: str | None = None
+    slips: tuple[tuple[int, float], ...] = ()
+
+    def note(self) -> FileNote | None:
+        """For a clock; None if it does not say its place and its time."""
+        if self.place is None or self.time is None:
+            return None
+        return FileNote(self.place, self.time, self.monotonic, self.slips)
 
 
 @dataclass
@@ -65,7 +96,7 @@ def kept_between(folder: str, first: float, last: float) -> RecordedSession | No
     then, and of which it is known what the gateway was. None if all that is kept is behind it."""
     for files in reversed(_sessions_in(folder)):
         session = _told(RecordedSession(files))
-        begins = [session.clock.second(note_of(file).get('place', 0) - session.place) for file in files]
+        begins = [session.clock.second((read_about(file).place or 0) - session.place) for file in files]
         if session.begin is not None and begins[0] < last:
             early = [n for n, begin in enumerate(begins) if begin <= first and state_of(files[n])]
             return _told(RecordedSession(files[max(early, default=0):sum(begin < last for begin in begins)]))
@@ -84,14 +115,14 @@ def _sessions_in(path: str) -> list[list[str]]:
     if len(trunks) > 1:
         raise InputError(f'{path} holds sessions of several trunks: {", ".join(sorted(trunks))}')
     files = _in_order([os.path.join(path, name) for name in names])
-    edges = sorted({0, *_session_starts([note_of(file) for file in files]), len(files)})
+    edges = sorted({0, *_session_starts([read_about(file) for file in files]), len(files)})
     return [files[first:last] for first, last in zip(edges, edges[1:])]
 
 
 def _in_order(files: list[str]) -> list[str]:
     """Files that are sorted by their names; each one is behind the one that it says it follows, since the clock may
     have been set back in between."""
-    after = {file: note_of(file).get('after') for file in files}
+    after = {file: read_about(file).after for file in files}
     following = {its: file for file, its in after.items() if its}
     names = {os.path.basename(front_of(file)) for file in files}
     found: list[str] = []
@@ -103,17 +134,18 @@ def _in_order(files: list[str]) -> list[str]:
     return found + [file for file in files if file not in found]
 
 
-def _session_starts(abouts: list[dict[str, Any]]) -> list[int]:
+def _session_starts(abouts: list[FileAbout]) -> list[int]:
     """Which of the files begin a session: a new gateway, or one of another configuration than the file before."""
-    sums = [about.get('config_sha256') for about in abouts]
-    return [n for n, about in enumerate(abouts)
-            if about.get('begins') == 'start' or n and sums[n] and sums[n - 1] and sums[n] != sums[n - 1]]
+    sums = [about.config_sha256 for about in abouts]
+    return [n for n, about in enumerate(abouts) if about.begins is FileStart.START
+            or n and sums[n] and sums[n - 1] and sums[n] != sums[n - 1]]
 
 
 def _enough(files: list[str], last: int) -> int:
     """With which of the files to begin for this number of octets at the end: all before it may be left out."""
-    end = note_of(files[-1]).get('place', 0)
-    found = [n for n, file in enumerate(files) if state_of(file) and note_of(file).get('place', end) + last <= end]
+    *places, end = (read_about(file).place for file in files)
+    found = [n for n, place in enumerate(places)
+             if state_of(files[n]) and place is not None and place + last <= (end or 0)]
     return found[-1] if found else 0
 
 
@@ -134,31 +166,20 @@ def state_of(path: str) -> str:
     return state if os.path.exists(state) else ''
 
 
-def note_of(path: str) -> dict[str, Any]:
-    """The .json of a file that is kept."""
-    return read_object(f'{front_of(path)}.json')
-
-
-def read_object(path: str) -> dict[str, Any]:
-    """The JSON object in a file; empty if the file can't be read or holds none."""
-    try:
-        with open(path, encoding='utf-8') as file:
-            found = json.load(file)
-        return found if isinstance(found, dict) else {}
-    except (OSError, ValueError):
-        return {}
+def read_about(path: str) -> FileAbout:
+    """What is said of a file that is kept; nothing if that can't be read."""
+    with suppress(OSError, ValueError), open(f'{front_of(path)}.json', encoding='utf-8') as file:
+        return typed(FileAbout, json.load(file))
+    return FileAbout()
 
 
 def _told(session: RecordedSession) -> RecordedSession:
-    about = note_of(session.files[0])
-    session.config = about.get('config')
-    session.wait = about.get(WAIT, SEIZURE_WAIT)
-    session.begin = about.get('time')
-    session.middle = about.get('begins') == 'middle'
-    session.place = about.get('place', 0)
+    about = read_about(session.files[0])
+    session.config, session.wait, session.begin = about.config, about.seizure_wait, about.time
+    session.middle, session.place = about.begins is FileStart.MIDDLE, about.place or 0
     session.state = state_of(session.files[0]) if session.middle else ''
-    if 'place' in about:
-        notes = [note for file in session.files if (note := FileNote.from_json(note_of(file)))]
+    if about.place is not None:
+        notes = [note for file in session.files if (note := read_about(file).note())]
         session.slips = slips_of(notes)
         session.breaks = [*breaks_of(notes)]
     return session

@@ -29,7 +29,7 @@ from e1gw_common.faults import Parser, number, words_of_fault
 from e1gw_common.frames import REVERSED, FrameSearch, raw_words_of
 from e1gw_common.session import (CIRCUITS, FRAME, OCTETS_A_SECOND, BadPacket, BadSession, Kind, Record, packet_of,
                                  records, trunk_record)
-from e1gw_common.session_files import InputError, note_of, octets_of, pieces
+from e1gw_common.session_files import InputError, octets_of, pieces, read_about
 
 NAME = os.path.basename(sys.argv[0])    # in the package e1gw-records
 PIECE = 1 << 16
@@ -178,7 +178,7 @@ def read_session(asked: argparse.Namespace, source: Iterator[bytes]) -> None:
     elif asked.until is not None or asked.begin is not None:
         write_records(source, asked.begin or 0, asked.until, sys.stdout.buffer)
     else:
-        print_records(source, note_of(asked.file).get('place', 0) if asked.file else 0)
+        print_records(source, (read_about(asked.file).place or 0) if asked.file else 0)
 
 
 def main() -> None:

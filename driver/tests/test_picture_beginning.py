@@ -11,7 +11,7 @@ from unittest import mock
 from . import support
 from .picture_made import MadeSession, PictureSender, coded, packets, page_of
 from e1gw.recording_ring import Ring
-from e1gw_common.session_files import InputError, open_session
+from e1gw_common.session_files import FileAbout, FileStart, InputError, open_session
 from e1gw_picture.beginning import begin
 from e1gw_picture.facts import Facts
 from e1gw_picture.main import gathered
@@ -56,8 +56,9 @@ class RingCase(support.FolderCase):
         for number, (records, place) in enumerate(zip(pieces, self.places)):
             front = ring.next(place)
             load = ['--load', f'{front}.state'] if state else []
-            ring.begin(front, {'config': self.config, 'time': BEGIN + each * number, 'monotonic': each * number,
-                               'place': place, 'begins': 'middle' if state else 'start'}, state)
+            begins = FileStart.MIDDLE if state else FileStart.START
+            ring.begin(front, FileAbout(self.config, None, BEGIN + each * number, each * number, place, begins=begins),
+                       state)
             self.write(f'{front}.e1gw', octets := b''.join(records))
             support.run('replay', '--config', self.config, *load, '--save', saved, given=octets)
             state = support.octets_of(saved)

@@ -15,7 +15,7 @@ from . import support
 from .properties import PropertyCase
 from e1gw.recording_ring import MOST_SLIPS, Ring, seconds_of, seconds_of_file
 from e1gw_common.session import OCTETS_A_SECOND
-from e1gw_common.session_files import open_session, note_of
+from e1gw_common.session_files import FileAbout, open_session, read_about
 
 KEPT = 60                   # seconds
 EARLIER, OWN = 5, 6         # files, in place of so many that no test makes them
@@ -47,7 +47,8 @@ class RingTests(support.FolderCase, PropertyCase):
 
     def begins(self, ring: Ring, second: int) -> str:
         """A file of a ring; returns its path without the ending."""
-        ring.begin(front := ring.next(second * OCTETS_A_SECOND), {'place': second * OCTETS_A_SECOND}, b'%d' % second)
+        about = FileAbout(place=second * OCTETS_A_SECOND)
+        ring.begin(front := ring.next(second * OCTETS_A_SECOND), about, b'%d' % second)
         self.write(f'{front}.e1gw', f'{second}')
         return front
 
@@ -59,7 +60,7 @@ class RingTests(support.FolderCase, PropertyCase):
         fronts, found = [os.path.join(self.ring, name[:-6]) for name in self.files('.state')], list[int]()
         for front in fronts:
             found.append(int(support.text_of(f'{front}.state')))
-            self.assertEqual(note_of(front)['place'], found[-1] * OCTETS_A_SECOND)
+            self.assertEqual(read_about(front).place, found[-1] * OCTETS_A_SECOND)
         self.assertEqual([len(self.files(ending)) for ending in ('.json', '.e1gw')], [len(found)] * 2)
         return sorted(found)
 
@@ -120,13 +121,13 @@ class RingTests(support.FolderCase, PropertyCase):
         """A ring that goes on with a file adds to what is noted there."""
         ring = Ring(self.ring, 'west', KEPT)
         front = ring.next(0)
-        ring.begin(front, {'place': 0}, b'state')
+        ring.begin(front, FileAbout(place=0), b'state')
         ring.note(deque([(1, 0.25), (2, 0.25)]))
         after = Ring(self.ring, 'west', KEPT, json.loads(json.dumps(ring.own)))
-        after.begin(front, {'place': 7}, b'other')
-        self.assertEqual(note_of(front), {'place': 0, 'slips': [[1, 0.25], [2, 0.25]]})
+        after.begin(front, FileAbout(place=7), b'other')
+        self.assertEqual(read_about(front), FileAbout(place=0, slips=((1, 0.25), (2, 0.25))))
         after.note(deque([(99, 0.1)] * 2 * MOST_SLIPS))
-        self.assertEqual((len(note_of(front)['slips']), support.text_of(f'{front}.state')), (MOST_SLIPS, 'state'))
+        self.assertEqual((len(read_about(front).slips), support.text_of(f'{front}.state')), (MOST_SLIPS, 'state'))
         self.assertEqual({stat.S_IMODE(os.stat(os.path.join(self.ring, name)).st_mode)
                           for name in os.listdir(self.ring)}, {0o640})
         for each in (ring, after):

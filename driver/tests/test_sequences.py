@@ -19,7 +19,7 @@ from .keepers import CIRCUITS, NO_EFFECT
 from .support import octets_in
 from .test_watcher import WatcherCase, events_in
 from e1gw_common.session import Codec, Kind, codec_record, records_in
-from e1gw_common.session_files import by_time, open_session, note_of, octets_of
+from e1gw_common.session_files import by_time, open_session, octets_of, read_about
 
 HELD = 12                   # multiframes that a device holds which nobody reads
 NAMELESS = 35               # a signal of real time: it could not be told, and no program followed
@@ -329,7 +329,7 @@ class RingSequenceTests(SequenceCase):
     def ends_all(self) -> None:
         super().ends_all()
         fronts = sorted((path.removesuffix('.json') for path in glob.glob(self.path('ring/*.json'))), key=by_time)
-        places, octets = [note_of(f'{front}.e1gw')['place'] for front in fronts], b''.join(self.uncut()[0])
+        places, octets = [read_about(f'{front}.e1gw').place or 0 for front in fronts], b''.join(self.uncut()[0])
         given = octets_in(b''.join(self.given))
         for front, begin, end in zip(fronts, places, [*places[1:], len(given)]):
             load = ('--load', f'{front}.state') if begin else ()

@@ -15,10 +15,10 @@ import time
 from collections import deque
 from contextlib import suppress
 from dataclasses import dataclass
-from typing import Any, Callable
+from typing import Callable
 
-from e1gw_common.lines import WAIT
 from e1gw_common.session import OCTETS_A_SECOND
+from e1gw_common.session_files import FileAbout, FileStart
 from e1gw_common.writers import open_to_append, write_all
 from ..priority import put_behind
 from ..recording_ring import RECORDS, Ring, seconds_of_file
@@ -217,12 +217,11 @@ class TrunkRecording:
         noted.wait(FLUSH)
 
 
-def about_of(begin: FileBegin, wants: RecordingWants) -> dict[str, Any]:
+def about_of(begin: FileBegin, wants: RecordingWants) -> FileAbout:
     """What is said of a file."""
     day = time.time() - time.monotonic() + begin.since
-    return {'config': wants.config_path, 'config_sha256': hashlib.sha256(begin.config).hexdigest(),
-            'time': round(day, 3), 'monotonic': round(begin.since, 3), 'place': begin.octets, WAIT: wants.wait,
-            'begins': 'middle' if begin.octets or begin.state else 'start'}
+    return FileAbout(wants.config_path, hashlib.sha256(begin.config).hexdigest(), round(day, 3), round(begin.since, 3),
+                     begin.octets, wants.wait, FileStart.MIDDLE if begin.octets or begin.state else FileStart.START)
 
 
 def size_of(file: int | str) -> int:
