@@ -120,11 +120,11 @@ class DeafTrunkTests(DeafTrunkCase):
         """The first cause, also if another one comes behind it, and the call goes on behind a program and a watcher."""
         found = await self.deaf()
         found._lines.take(f'{counts(7, 0, PayloadType=9, Late=30)}\n'.encode())
-        found.status.calls.on_disconnect()
-        note = found.status.calls.note(0, 0, 0.0, ())
+        found.client.calls.on_disconnect()
+        note = found.client.calls.note(0, 0, 0.0, ())
         self.assertEqual([note.circuits[n].packets.cause for n in (3, 5, 7)], ['', '', 'PayloadType'])
         later = self.watched()
-        later.status.calls.take_up(note)
+        later.client.calls.take_up(note)
         later._lines.begin(0)
         lines = [*BEGIN, row(7, 'answered', '00 11'), counts(7, 0, PayloadType=9, Late=30), 'now']
         later._lines.take('\n'.join([*lines, counts(7, 0, PayloadType=9, Late=40), '']).encode())
@@ -133,7 +133,7 @@ class DeafTrunkTests(DeafTrunkCase):
     async def test_the_next_call(self) -> None:
         """Begins anew, also if nobody has looked in between. What came while there was none is not of it."""
         found, calls = await self.deaf(), list[Event]()
-        setattr(found.status, 'tell', found.tell)
+        setattr(found.client, 'tell', found.tell)
         setattr(found._deaf, '_tell', calls.append)
         states = [row(7, state, '00 11') for state in ('releasing', 'idle', 'seized', 'acked', 'answered')]
         found._lines.take('\n'.join([*states[:2], counts(7, 0, PayloadType=9, NotOpen=5), *states[2:], '']).encode())
@@ -144,7 +144,7 @@ class DeafTrunkTests(DeafTrunkCase):
 
     def discarded(self, found: Any) -> tuple[str, ...]:
         """What was received in the call of circuit 7, and discarded."""
-        line = next(each for each in found.status.calls.open_calls() if each.circuit == '7')
+        line = next(each for each in found.client.calls.open_calls() if each.circuit == '7')
         return line.received, line.discarded, line.cause
 
 

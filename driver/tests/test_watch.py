@@ -55,7 +55,7 @@ class TrunkWatchCase(support.LoopCase):
         self.addCleanup(found._close)
         self.given, self.told = list[bytes](), list[Event]()
         setattr(found._program, 'ask', self.ask)
-        setattr(found.status, 'tell', self.told.append)
+        setattr(found.client, 'tell', self.told.append)
         return found
 
     async def ask(self, record: bytes, *_: object, **__: object) -> SimpleNamespace:
@@ -95,7 +95,7 @@ class WatchEdgeTests(TrunkWatchCase):
         found, commands = self.watched(), ('command 3 1 0', 'command 4 1 0')
         change = [row(3, 'seized', '00 10'), row(4, 'seized', '00 10'), row(3, 'acked', '00 11'), row(4, 'idle'),
                   row(3, 'answered', '00 01'), row(5, 'fault'), counts(3, 9, Late=2)]
-        setattr(found.status, 'tell', found.tell)
+        setattr(found.client, 'tell', found.tell)
         found.blocks = mock.Mock(**{'kept.now.word.return_value': None})
         found._lines.begin(4096)
         found._lines.take('\n'.join([*BEGIN, 'now', *commands, *change, '']).encode())
@@ -103,7 +103,7 @@ class WatchEdgeTests(TrunkWatchCase):
         found.count(3, 'seize', 'done')
         found._resyncs = 4
         found._lines.lines[3].opened = time.monotonic() - 5.0
-        calls, shown, wanted = found.status.calls_note(), found.page_notes(), found.known()
+        calls, shown, wanted = found.client.calls_note(), found.page_notes(), found.known()
         assert calls
         found._lines.take('\n'.join([row(3, 'fault'), row(5, 'idle'), row(4, 'answered'), '']).encode())
         later = self.watched()
@@ -158,7 +158,7 @@ class WatchEdgeTests(TrunkWatchCase):
             with self.subTest(what), mock.patch.object(kind, what, side_effect=KeyError('odd')):
                 found = self.watched()
                 found.blocks, follower = mock.Mock(), mock.Mock()
-                setattr(found.status, 'tell', found.tell)
+                setattr(found.client, 'tell', found.tell)
                 setattr(found._server, 'followers', lambda: [follower])
                 found._lines.begin(0)
                 found._lines.take('\n'.join([*BEGIN, 'now', '']).encode())
@@ -200,7 +200,7 @@ class WatchEdgeTests(TrunkWatchCase):
         """For how long nothing is known is told, if how the lines stood before is."""
         text = '\n'.join([*BEGIN, 'now', 'at 1024', 'end', '']).encode()
         for is_known in True, False:
-            its = self.watched().status
+            its = self.watched().client
             if is_known:
                 its.take_up(CallsNote(OCTETS_A_SECOND, 0, 0.0, {}, (), {}, ()))
             missed = MissedReports(OCTETS_A_SECOND, False, 3 * OCTETS_A_SECOND, 3 * OCTETS_A_SECOND + 1024, text)
@@ -212,7 +212,7 @@ class WatchEdgeTests(TrunkWatchCase):
 
     async def test_circuits_that_are_configured_otherwise(self) -> None:
         """Of those a reload has ended the calls."""
-        its = self.watched().status
+        its = self.watched().client
         self.write('trunk.toml', 'law = "A"\n[[circuit]]\nnumber = 3\n')
         with mock.patch.object(its._trunk, 'missed_reports', mock.AsyncMock(return_value=None)):
             for changed in {3}, set():
@@ -274,11 +274,11 @@ class WatchEdgeTests(TrunkWatchCase):
             for number in range(1002):
                 found._put_call(f'{number}')
             await self.until(lambda: found.ended['calls'])
-            self.assertEqual(found.status.waiting(), [f'{number}' for number in range(1000)])
+            self.assertEqual(found.client.waiting(), [f'{number}' for number in range(1000)])
 
     async def test_stalls(self) -> None:
         """They are counted; octets that are counted anew, by another machine, are no stall."""
-        its = self.watched().status
+        its = self.watched().client
         its._line = mock.Mock()
         with mock.patch.object(flow, 'QUIET', 1.0):
             for place in 1000, 1000, 1000, 1000, 1, 2:

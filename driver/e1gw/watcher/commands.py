@@ -170,7 +170,7 @@ class CommandServer:
             return NO_CIRCUIT.lines(f'{name} {words[0][:40]}')
         front = f'{name} {circuit}'
         # (No exchange could see a seizure in an outage, and 200 ms later it would be released.)
-        outage = trunk.status.outage() if command is Command.SEIZE else None
+        outage = trunk.client.outage() if command is Command.SEIZE else None
         if fault := trunk.blocks.refusal(circuit, command) or outage:
             trunk.count(circuit, name, fault)
             return refused(fault).lines(front)
@@ -184,7 +184,7 @@ class CommandServer:
         if not circuit:
             return NO_CIRCUIT.lines(f'codec {words[0][:40]}')
         front = f'codec {circuit}'
-        if fault := codec_fault(words[1:3], trunk.status.lines.law):
+        if fault := codec_fault(words[1:3], trunk.client.lines.law):
             return refused(fault).lines(front)
         record = codec_record(circuit, CODECS[words[1]], int(words[2]))
         answer = await trunk.command(record, circuit, ' '.join(['codec', *words[1:]]))

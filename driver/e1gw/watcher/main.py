@@ -98,8 +98,8 @@ class Watcher:
         if note:
             self._take_up(note)
         reader.take_up(note.read if note else ReadingNote(), note.recording if note else None)
-        watch.status.changed = self.note
-        reader.found, reader.told = watch.flowed, lambda: watch.status.lines.place
+        watch.client.changed = self.note
+        reader.found, reader.told = watch.flowed, lambda: watch.client.lines.place
         reader.took, reader.missed = watch.counts.take_records, watch.counts.skip
         if pair := open_pair(asked, trunk, watch.tell):
             trunk.stands_with(pair)
@@ -118,7 +118,7 @@ class Watcher:
     def _take_up(self, note: WatchNote) -> None:
         """What was told is not told again."""
         watch = self._watch
-        watch.status.was_told(note.told)
+        watch.client.was_told(note.told)
         watch.was_shown(note.shown)
         if note.calls:
             watch.take_up(note.calls)
@@ -131,8 +131,8 @@ class Watcher:
         watch, reader = self._watch, self._reader
         with reporting_failures('the note for the next watcher'):
             blocks = {n: each.name for n, each in watch.blocks.kept.now.circuits.items()}
-            text = WatchNote(self._trunk.noted(), reader.noted(), watch.status.counts_told(), watch.page_notes(),
-                             blocks, watch.codecs.given, reader.recording_note(), watch.status.calls_note()).text()
+            text = WatchNote(self._trunk.noted(), reader.noted(), watch.client.counts_told(), watch.page_notes(),
+                             blocks, watch.codecs.given, reader.recording_note(), watch.client.calls_note()).text()
             try:
                 self._notes.put(text)
             except FileNotFoundError:           # (the trunk has ended, or its folder is made again)

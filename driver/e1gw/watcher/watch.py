@@ -96,21 +96,21 @@ class TrunkWatch:
         self.ended: dict[str, str | None] = dict.fromkeys(BESIDE)
         self._restarts = Resyncs(self.restart, self.tell)
         self.counts, self._deaf = DatagramCounts(report_failure(self._restarts.counted, WATCH)), DeafCalls(self.tell)
-        self.status = TellClient(trunk, wants.name, self.tell, self.counts, self._put_call)
-        self._lines = self.status.lines
-        self._program = ProgramConnection(lambda: trunk.places().control, self.status.set_connected, self.status.wake,
+        self.client = TellClient(trunk, wants.name, self.tell, self.counts, self._put_call)
+        self._lines = self.client.lines
+        self._program = ProgramConnection(lambda: trunk.places().control, self.client.set_connected, self.client.wake,
                                           lambda: trunk.facts().fault)
         self._lines.commanded = report_failure(self._program.on_record, WATCH)
         self._events, self._ended_calls = ReadEvents(), deque[str](maxlen=LAST)
-        self.pages = TrunkPages(self.known, self.status.take_now, list(self._lines.lines.values()),
+        self.pages = TrunkPages(self.known, self.client.take_now, list(self._lines.lines.values()),
                                 PageNotes(self._events.last, self._ended_calls, wants.kept))
         self._server = CommandServer(self)
         self.blocks = BlockWatch(trunk.blocks(), self._lines, self.give, self.tell)
         self._reloads = IdleReloadWatch(trunk, self._lines)
         self.codecs = CodecWatch(self._lines, self.give_codec, lambda n: self.blocks.is_busy(n)
-                                 or n in self._reloads.waiting(), lambda: self.status.changed())
-        self.status.is_followed = lambda: bool(self._server.followers() or self.blocks.kept.now.not_yet_blocked())
-        self.status.waiting = lambda: [*islice(self._calls.waiting, NOTED)] if self._calls else []
+                                 or n in self._reloads.waiting(), lambda: self.client.changed())
+        self.client.is_followed = lambda: bool(self._server.followers() or self.blocks.kept.now.not_yet_blocked())
+        self.client.waiting = lambda: [*islice(self._calls.waiting, NOTED)] if self._calls else []
         self.disconnects = DisconnectWatch(on_loss_of(wants.on_loss), self.clear_all)
         self._outages = OutageWatch(wants.dark, self.clear_all)
         self._done, self._resyncs = Counter[tuple[str, str]](), 0
@@ -126,7 +126,7 @@ class TrunkWatch:
         """Has the program do a command of a circuit."""
         try:
             with self.blocks.under_way(circuit):
-                refusal = (await self._program.ask(record, self.status.teller)).refusal
+                refusal = (await self._program.ask(record, self.client.teller)).refusal
             answer = refused_by(refusal, circuit, self._lines.lines[circuit].role) if refusal else DONE
         except NoAnswer as fault:
             answer = CommandAnswer(AnswerWord.UNKNOWN if fault.is_given else AnswerWord.REFUSED, str(fault))
@@ -173,7 +173,7 @@ class TrunkWatch:
 
     def take_up(self, note: CallsNote) -> None:
         """Goes on with the calls of the watcher before this one, some of whose lines it may not have written."""
-        self.status.take_up(note)
+        self.client.take_up(note)
         for line in note.lines:
             if self._calls and self.wants.calls and not has_line(self.wants.calls, line):
                 self._calls.put(line)
@@ -218,7 +218,7 @@ class TrunkWatch:
 
     def _call_of(self, event: LineChanged) -> str | None:
         try:
-            return self.status.calls.on_state_change(event) or None
+            return self.client.calls.on_state_change(event) or None
         except Exception as fault:      # pylint: disable=broad-exception-caught
             has_failed(WATCH, fault)
             return None
@@ -259,12 +259,12 @@ class TrunkWatch:
 
     def known(self) -> TrunkStatus:
         """All that is known."""
-        now, facts, known, blocks = time.time(), self.trunk.facts(), self.status, self.blocks.kept.now
+        now, facts, client, blocks = time.time(), self.trunk.facts(), self.client, self.blocks.kept.now
         return TrunkStatus(
             name=self.wants.name, version=facts.version, senders=facts.senders, time=round(now, 3),
             uptime=0.0 if facts.fault else round(now - facts.since, 3), fault=facts.fault or None,
-            files=self.wants.files(), told=known.told(), pair=facts.pair, transport=facts.transport, crc4=facts.crc4,
-            clock=known.flow.status(self.trunk.flow()), calls=(*known.calls.open_calls(),),
+            files=self.wants.files(), told=client.told(), pair=facts.pair, transport=facts.transport, crc4=facts.crc4,
+            clock=client.flow.status(self.trunk.flow()), calls=(*client.calls.open_calls(),),
             alarms=(*self._events.active_alarms().values(),),
             circuits=tuple(replace(row, blocked=blocks.word(n), deaf=self._deaf.causes.get(n))
                            for n, row in zip(CIRCUITS, self._lines.rows())),
@@ -295,7 +295,7 @@ class TrunkWatch:
 
     async def run(self) -> None:
         """Watches, until it is cancelled. Whatever fails is begun again."""
-        works = self.status.run, self._program.run
+        works = self.client.run, self._program.run
         try:
             with run_periodically(TICK, self._check, WATCH):
                 await asyncio.gather(*(retry(work, WATCH) for work in works))
@@ -308,7 +308,7 @@ class TrunkWatch:
         now = time.monotonic()
         if self.wants.control and not os.path.lexists(self.wants.control):
             self._tasks.begin(self._reopen_listener(self.wants.control))
-        self.status.look_at_flow(now)
+        self.client.look_at_flow(now)
         if self._lines.live:
             self._deaf.look(self._lines.place, self.counts.listen_to({
                 n: line.codec for n, line in self._lines.lines.items() if line.state is State.ANSWERED}))
@@ -317,7 +317,7 @@ class TrunkWatch:
         self.blocks.look()
         self.codecs.look()
         self._reloads.look(now)
-        self._outages.look(now, self.status.outage())
+        self._outages.look(now, self.client.outage())
 
     def on_trunk_restart(self) -> None:
         """The trunk goes on behind the end of this one, and so do its calls."""
@@ -325,7 +325,7 @@ class TrunkWatch:
 
     def _close(self) -> None:
         if self._is_over:
-            self.status.calls.finish()
+            self.client.calls.finish()
         for each in (self._json, self._calls):
             if each:
                 each.close()
