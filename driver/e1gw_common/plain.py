@@ -10,6 +10,7 @@ from enum import Enum
 from typing import Any, NamedTuple, TypeVar, Union, get_args, get_origin, get_type_hints
 
 T = TypeVar('T')
+hints_of = functools.cache(get_type_hints)
 
 
 class PlainField(NamedTuple):
@@ -29,14 +30,15 @@ def flat(**more: Any) -> Any:
 
 @functools.cache
 def fields_of(kind: Any) -> tuple[PlainField, ...]:
-    hints = get_type_hints(kind)        # (a key that is a word of Python has _ behind it here)
-    return tuple(PlainField(each.name, each.name.rstrip('_'), hints[each.name], 'is_flat' in each.metadata)
-                 for each in dataclasses.fields(kind))
+    return tuple(PlainField(each.name, each.name.rstrip('_'), hints_of(kind)[each.name], 'is_flat' in each.metadata)
+                 for each in dataclasses.fields(kind))     # (a key that is a word of Python has _ behind it here)
 
 
 def plain_of(value: object) -> Any:
     """A value as JSON has it."""
     kind: Any = type(value)
+    if kind in (str, int, float, bool, type(None)):
+        return value
     if dataclasses.is_dataclass(kind):
         found = dict[str, Any]()
         for each in fields_of(kind):
@@ -72,7 +74,7 @@ def _typed(kind: Any, plain: Any) -> Any:
     origin, of = get_origin(kind), get_args(kind)
     if hasattr(kind, '_fields'):            # (a NamedTuple, which the note of a watcher has as a list)
         values = plain.items() if isinstance(plain, dict) else zip(kind._fields, plain, strict=True)
-        return kind(**{name: _typed(hint, value) for name, value in values if (hint := get_type_hints(kind).get(name))})
+        return kind(**{name: _typed(hint, value) for name, value in values if (hint := hints_of(kind).get(name))})
     if origin in (Union, types.UnionType):
         return None if plain is None and type(None) in of else _typed(of[0], plain)
     if origin is tuple:
