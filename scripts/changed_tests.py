@@ -7,7 +7,7 @@ import sys
 from typing import Iterator
 
 TOP = os.path.dirname(os.path.dirname(os.path.realpath(__file__)))
-DRIVER, TESTS = 'driver', 'driver/tests'
+DRIVER, TESTS = 'driver', ('driver/tests', 'tests/program')
 
 
 def module_of(path: str) -> str:
@@ -32,15 +32,15 @@ def imported_by(path: str) -> Iterator[str]:
 
 def tests_of(changed: set[str]) -> list[str]:
     """The test files that import one of these modules, or are one."""
-    names = sorted(name for name in os.listdir(os.path.join(TOP, TESTS)) if name.startswith('test_'))
-    paths = [f'{TESTS}/{name}' for name in names if name.endswith('.py')]
-    return [path for path in paths if module_of(path) in changed or changed & set(imported_by(path))]
+    paths = [f'{folder}/{name}' for folder in TESTS for name in sorted(os.listdir(os.path.join(TOP, folder)))]
+    return [path for path in paths if os.path.basename(path).startswith('test_')
+            and (module_of(path) in changed or changed & set(imported_by(path)))]
 
 
 def main() -> None:
     staged = subprocess.run(['git', '-C', TOP, 'diff', '--cached', '--name-only', '--diff-filter=AMR'],
                             capture_output=True, text=True, check=True).stdout.split('\n')
-    changed = {module_of(path) for path in staged if path.startswith(f'{DRIVER}/') and path.endswith('.py')}
+    changed = {module_of(path) for path in staged if path.startswith((f'{DRIVER}/', *TESTS)) and path.endswith('.py')}
     print('\n'.join(tests_of(changed)), end='')
 
 

@@ -1,55 +1,7 @@
-"""How pytest runs these tests: `--e1gw PROGRAM` is the program that they look at, and with another `--seed N` what they
-choose by chance is other. The last line is `N passed, M failed`."""
-from __future__ import annotations
-
+"""What comes before each of these tests."""
 import gc
-import os
-import shutil
-import sys
-import tempfile
-from pathlib import Path
-from typing import Any
-
-import pytest
-
-TOP = Path(__file__).resolve().parents[2]
-
-
-def pytest_addoption(parser: pytest.Parser) -> None:
-    parser.addoption('--e1gw', metavar='PROGRAM', help='the program [default: out/e1gw]')
-    parser.addoption('--seed', metavar='N', type=int, default=1, help='by which random tests choose [default: 1]')
-
-
-def pytest_configure(config: pytest.Config) -> None:
-    """What tests find around them, and the commands that they start: the program, the Python that this is, and a place
-    for what it makes of modules. (Those who run tests beside each other have it of who has started them.)"""
-    if 'E1GW_SEED' in os.environ:
-        return
-    folder = tempfile.TemporaryDirectory(dir='/dev/shm' if os.path.isdir('/dev/shm') else None)
-    config.add_cleanup(folder.cleanup)
-    program = os.path.realpath(config.option.e1gw or TOP / 'out' / 'e1gw')
-    if program.endswith('.unproved'):           # (its version would say so)
-        program = shutil.copy(program, f'{folder.name}/e1gw')
-    sys.pycache_prefix = folder.name
-    os.environ |= {'E1GW': program, 'E1GW_SEED': str(config.option.seed), 'PYTHONPYCACHEPREFIX': folder.name,
-                   'PATH': f'{os.path.dirname(sys.executable)}:{os.environ.get("PATH", os.defpath)}'}
-    os.environ.pop('PYTHONDONTWRITEBYTECODE', None)
-
-
-def pytest_collection_modifyitems(items: list[pytest.Item]) -> None:
-    """Larger modules first: they take longer."""
-    items.sort(key=lambda item: -item.path.stat().st_size)
 
 
 def pytest_runtest_setup() -> None:
     """What the test before has left says nothing within this one."""
     gc.collect()
-
-
-def pytest_unconfigure(config: pytest.Config) -> None:
-    """The last line. A test that was passed over for want of the program has failed."""
-    if (reporter := config.pluginmanager.get_plugin('terminalreporter')) and not config.option.collectonly:
-        counts: dict[str, list[Any]] = reporter.stats
-        missing = [each for each in counts.get('skipped', []) if 'no program' in str(each.longrepr)]
-        failed = len(counts.get('failed', [])) + len(counts.get('error', [])) + len(missing)
-        print(f'{len(counts.get("passed", []))} passed, {failed} failed')

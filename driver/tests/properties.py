@@ -28,7 +28,7 @@ EXAMPLES = 300
 
 class PropertyCase(unittest.TestCase):
     """Tests whose steps hypothesis chooses, of the strategies `st`: always the same ones, or with another --seed of
-    scripts/drivers others."""
+    scripts/test others."""
 
     st: Any = strategies
 

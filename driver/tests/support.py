@@ -148,12 +148,12 @@ def program() -> str:
     """The program that E1GW names, or that of the tree where it is built. The test is passed over without one."""
     path = os.environ.get('E1GW') or os.path.join(TOP, 'out', 'e1gw')
     if not os.access(path, os.X_OK):
-        raise unittest.SkipTest('no program: --e1gw names one, scripts/build builds it')
+        raise unittest.SkipTest('no program: --program names one, scripts/build builds it')
     return path
 
 
 def seed() -> str:
-    """That of scripts/drivers."""
+    """That of scripts/test."""
     return os.environ.get('E1GW_SEED', '1')
 
 

@@ -35,7 +35,7 @@ ALIGNED, LATE = 20, 3       # multiframes in which alignment is found; by which 
 CALLED = range(11, 21)      # circuits with calls
 FAR, RECORD = 1 << 60, trunk_record(bytes(MULTIFRAME))
 QUIET = 60                  # multiframes at the end without a change
-EXAMPLES = 120              # sequences: with another --seed of scripts/drivers others
+EXAMPLES = 120              # sequences: with another --seed of scripts/test others
 ACKED, ANSWERED, BACK, IDLE = (State.ACKED, None), (State.ANSWERED, None), (State.CLEAREDBACK, None), (State.IDLE, None)
 SEIZED, CLEAR = (State.SEIZED, Command.SEIZE), (State.RELEASING, Command.CLEAR)
 # How calls go (Q.421): the states of the line, and the commands that led there.

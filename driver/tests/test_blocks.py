@@ -1,6 +1,6 @@
 """Circuits that an operator blocks: random sequences of what he, the exchange, clients and deaths do, and one trunk.
 
-A thousand sequences take 8 s of processor, so the gate has them all; others: scripts/drivers -k random_seq --seed 2."""
+A thousand sequences take 8 s of processor, so the gate has them all; others: scripts/test random_seq --seed 2."""
 from __future__ import annotations
 
 import asyncio

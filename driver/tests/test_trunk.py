@@ -282,7 +282,7 @@ class FilteredWorld(World):
 
 
 class FilterTests(unittest.TestCase):
-    """(Check bits and errors are proved, and scripts/look has their figures.)"""
+    """(Check bits and errors are proved, and tests/program has their figures.)"""
 
     def goes_on(self, world: FilteredWorld) -> None:
         """A call is up, and the exchange hears frames and CRC multiframes where they were (G.704, tables 5A and 5B)."""

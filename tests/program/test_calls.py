@@ -1,18 +1,17 @@
-"""Tests which files and sockets each command opens, renames and removes, in which order, and that it opens no others,
-for scripts/look.
+"""Which files and sockets each command opens, renames and removes, in which order, and that it opens no others.
 
 A command runs under strace on an empty input. A row has all such calls, as far as the programmer of a command decides
-them: `run` is its first read of standard input. Names of files are those in the folder of the run.
-"""
-import os
+them: `run` is its first read of standard input. Names of files are those in the folder of the run."""
+from __future__ import annotations
+
 import re
 import shutil
 import subprocess
-from collections.abc import Callable, Iterator
-from functools import partial
 
-import paths    # noqa: F401 (makes e1gw known)
-from e1gw_testing.datagrams import CIRCUIT, CONFIG, SECONDS, Wrongs
+import pytest
+
+from .case import Program
+from .udp_calls import CIRCUIT, CONFIG
 from e1gw_testing.ports import free_ports
 
 TRACED = ('open,openat,openat2,creat,rename,renameat,renameat2,unlink,unlinkat,rmdir,mkdir,mkdirat,link,linkat,symlink,'
@@ -98,39 +97,26 @@ def calls_in(trace: str, names: dict[str, str]) -> list[str]:
     return found
 
 
-def prepare(room: str, program: str) -> dict[str, str]:
+def prepare(program: Program) -> dict[str, str]:
     """A configuration, an old state and the folder of a log. Returns the names of the ports."""
     near, far = free_ports(2)
-    with open(os.path.join(room, 'config'), 'w', encoding='ascii') as text:
-        text.write(CONFIG.format(host='127.0.0.1')
-                   + CIRCUIT.format(number=1, local=near, peer_host='127.0.0.1', peer=far))
-    subprocess.run([program, 'replay', '--config', 'config', '--save', 'old'], stdin=subprocess.DEVNULL, cwd=room,
-                   timeout=SECONDS, check=True)
-    os.mkdir(os.path.join(room, 'log'))
+    (program.room / 'config').write_text(CONFIG.format(host='127.0.0.1') + CIRCUIT.format(
+        number=1, local=near, peer_host='127.0.0.1', peer=far), encoding='ascii')
+    program.run('replay', '--config', 'config', '--save', 'old')
+    (program.room / 'log').mkdir()
     return {str(near): 'near', str(far): 'far'}
 
 
-def makes(command: str, wanted: list[str], program: str, room: str) -> Wrongs:
+@pytest.mark.skipif(not shutil.which('strace'), reason='no strace')
+@pytest.mark.parametrize('command', CALLS)
+def test_calls(command: str, program: Program) -> None:
     """The calls of a command are these, in this order, and no others."""
-    names = prepare(room, program)
+    names = prepare(program)
     words = command
     for port, name in names.items():
         words = words.replace(f':{name}', f':{port}')
-    done = subprocess.run(['strace', '-qq', '-e', f'trace={TRACED}', '-s', '300', '-o', 'trace', program,
-                           *words.split()], stdin=subprocess.DEVNULL, capture_output=True, cwd=room, timeout=SECONDS,
+    done = subprocess.run(['strace', '-qq', '-e', f'trace={TRACED}', '-s', '300', '-o', 'trace', program.path,
+                           *words.split()], stdin=subprocess.DEVNULL, capture_output=True, cwd=program.room,
                           check=False)
-    with open(os.path.join(room, 'trace'), encoding='utf-8', errors='replace') as text:
-        found = calls_in(text.read(), names)
-    if found != [*HELD, *wanted] or done.returncode:
-        at = next((at for at, (one, other) in enumerate(zip(found, [*HELD, *wanted])) if one != other),
-                  min(len(found), len(HELD) + len(wanted)))
-        yield f'status {done.returncode}, {done.stderr!r}, from call {at} on: {found[at:]}'
-
-
-def call_looks() -> Iterator[tuple[str, Callable[[str, str], Wrongs]]]:
-    """The looks: a name, and what yields what is wrong, given the program and a folder to work in."""
-    if not shutil.which('strace'):
-        print('not looked at: calls, which takes strace')
-        return
-    for command, wanted in CALLS.items():
-        yield f'calls of {command}', partial(makes, command, wanted)
+    found = calls_in((program.room / 'trace').read_text(encoding='utf-8', errors='replace'), names)
+    assert (found, done.returncode) == ([*HELD, *CALLS[command]], 0), done.stderr
