@@ -37,8 +37,8 @@ def pytest_configure(config: pytest.Config) -> None:
 
 
 def pytest_collection_modifyitems(items: list[pytest.Item]) -> None:
-    """Larger modules first: they take longer."""
-    items.sort(key=lambda item: -item.path.stat().st_size)
+    """First those that have a time of their own, then larger modules: they take longer."""
+    items.sort(key=lambda item: (item.get_closest_marker('timeout') is None, -item.path.stat().st_size))
 
 
 def pytest_unconfigure(config: pytest.Config) -> None:

@@ -7,7 +7,7 @@ import sys
 from typing import Iterator
 
 TOP = os.path.dirname(os.path.dirname(os.path.realpath(__file__)))
-DRIVER, TESTS = 'driver', ('driver/tests', 'tests/program')
+DRIVER, TESTS = 'driver', ('driver/tests', 'tests/dist', 'tests/program', 'tests/scripts')
 
 
 def module_of(path: str) -> str:

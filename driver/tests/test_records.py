@@ -6,7 +6,7 @@ import sys
 import tempfile
 import unittest
 
-from . import FolderCase, TOP
+from .support import FolderCase, TOP
 
 RECORDS = os.path.join(TOP, 'bin', 'e1gw-records')
 IDLE = 0xD5
@@ -25,7 +25,7 @@ def trunk(frames: int, slot: int, speech: bytes) -> bytes:
     return bytes(out)
 
 
-class Printing(unittest.TestCase):
+class PrintedRecordTests(unittest.TestCase):
     def test_a_line_for_each_record(self) -> None:
         given = bytes.fromhex('54000002D5D5 4301000101 4401000D 8088 0001 0000000A 00000007 D5 4B01000204 60'
                               '5201000243 02 52010002 4B00')
@@ -52,32 +52,32 @@ class Printing(unittest.TestCase):
         self.assertIn(b'4 Truncated', ended.stderr)
 
 
-class Kept(FolderCase):
+class KeptSessionTests(FolderCase):
     """Files that a driver keeps."""
 
     def setUp(self) -> None:
         super().setUp()
-        self.path = os.path.join(self.top, 'west-20261125T101500Z.e1gw')
-        with open(self.path, 'wb') as file:
+        self.kept = self.path('west-20261125T101500Z.e1gw')
+        with open(self.kept, 'wb') as file:
             file.write(bytes.fromhex('54000002D5D5 540000010B'))
-        self.write(self.path.replace('.e1gw', '.json'), '{"place": 256000, "begins": "middle"}')
+        self.write(self.kept.replace('.e1gw', '.json'), '{"place": 256000, "begins": "middle"}')
 
     def test_places_are_those_of_the_trunk(self) -> None:
         lines = ['T    2 octets, from place 256000 on', 'T    1 octets, from place 256002 on']
-        self.assertEqual(ran(self.path).stdout.decode().splitlines(), lines)
-        with open(self.path, 'rb') as file:
+        self.assertEqual(ran(self.kept).stdout.decode().splitlines(), lines)
+        with open(self.kept, 'rb') as file:
             self.assertIn('from place 0 on', ran(given=file.read()).stdout.decode())
-        self.assertEqual(ran('--from', '0', self.path).stdout, bytes.fromhex('54000002D5D5 540000010B'))
+        self.assertEqual(ran('--from', '0', self.kept).stdout, bytes.fromhex('54000002D5D5 540000010B'))
 
     @unittest.skipUnless(shutil.which('zstd'), 'no zstd')
     def test_compressed(self) -> None:
-        subprocess.run(['zstd', '-q', '--rm', self.path], check=True)
-        self.assertIn('from place 256002 on', ran(f'{self.path}.zst').stdout.decode())
-        for path in f'{self.path}.zst', self.path:      # (also by the name that it had)
+        subprocess.run(['zstd', '-q', '--rm', self.kept], check=True)
+        self.assertIn('from place 256002 on', ran(f'{self.kept}.zst').stdout.decode())
+        for path in f'{self.kept}.zst', self.kept:      # (also by the name that it had)
             self.assertEqual(ran('--to-raw', path).stdout, b'\xd5\xd5\x0b')
 
 
-class Octets(unittest.TestCase):
+class RawOctetTests(unittest.TestCase):
     def test_octets_to_records_and_back(self) -> None:
         octets = bytes(range(256)) * 2 + b'end'
         made = ran('--from-raw', given=octets).stdout
@@ -88,7 +88,7 @@ class Octets(unittest.TestCase):
         self.assertEqual(ran('--from-raw', '--size', '65536').returncode, 2)
 
 
-class Raw(unittest.TestCase):
+class RawSessionTests(unittest.TestCase):
     """Octets of a trunk where a session is wanted: the command that is named makes a session of them."""
 
     def told(self, octets: bytes) -> str:
@@ -112,7 +112,7 @@ class Raw(unittest.TestCase):
         self.assertEqual(session, ran('--from-raw', given=octets).stdout)
 
 
-class Circuits(unittest.TestCase):
+class CircuitSpeechTests(unittest.TestCase):
     SPEECH = bytes(range(200))
 
     def heard(self, circuit: int, octets: bytes, *words: str) -> bytes:

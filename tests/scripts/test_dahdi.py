@@ -7,7 +7,6 @@ import unittest
 from typing import Iterator
 from unittest import mock
 
-import paths    # noqa: F401 (makes e1gw known)
 from . import loaded
 from dahdi_far import Multiframes, with_slot_0, without_slot_0
 from dahdi_talk import HEAD, OCTETS, Comparison, Way, compare

@@ -4,6 +4,8 @@ import shutil
 import subprocess
 import unittest
 
+import pytest
+
 import rattle_source
 from . import FolderCase, SCRIPTS
 
@@ -65,6 +67,7 @@ EDITS = {
 }
 
 
+@pytest.mark.timeout(900)       # (seconds: it calls the prover)
 class WrongBodiesTests(FolderCase):
     def test_each_kind(self) -> None:
         os.mkdir(f'{self.top}/scripts')

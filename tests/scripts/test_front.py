@@ -3,7 +3,8 @@ import os
 import shutil
 import subprocess
 
-from . import FolderCase, TOP
+from . import FolderCase
+from e1gw_common.programs import TOP
 
 WAV = b'RIFF\0\0\0\0WAVEfmt \0\1\2\3'
 

@@ -2,15 +2,14 @@
 import ast
 import contextlib
 import io
-import sys
 import unittest
 from pathlib import Path
 from unittest import mock
 
-from . import SCRIPTS, TOP, FolderCase, loaded
+from . import FolderCase, loaded
+from e1gw_common.programs import TOP
+from mutation import edits_of
 
-sys.path.insert(0, SCRIPTS)
-from mutation import edits_of   # noqa: E402
 
 mutants = loaded('mutants')
 

@@ -12,7 +12,8 @@ import time
 from typing import Any
 from unittest import mock
 
-from . import FolderCase, TOP, loaded
+from . import FolderCase, loaded
+from e1gw_common.programs import TOP
 
 # The program of the try. `check` keeps its input open itself, as the real one does.
 PROGRAM = '''#!/bin/sh

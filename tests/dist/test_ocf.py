@@ -7,7 +7,7 @@ import tempfile
 import threading
 import unittest
 
-from . import TOP
+from e1gw_common.programs import TOP
 
 AGENT = os.path.join(TOP, 'dist', 'ocf', 'e1gw')
 RUNNING, NOT_RUNNING, ACTIVE = 0, 7, 8          # the numbers of OCF

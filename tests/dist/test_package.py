@@ -5,7 +5,7 @@ import subprocess
 import tempfile
 import unittest
 
-from . import TOP
+from e1gw_common.programs import TOP
 
 RUNS = '/run/systemd/system'        # is there where systemd runs
 

@@ -6,7 +6,7 @@ import sys
 import tempfile
 import unittest
 
-from . import TOP
+from e1gw_common.programs import TOP
 
 DSCP = os.path.join(TOP, 'dist', 'system', 'dscp')
 UNIT = r'sys.slice/system-e1gw\x2dtrunk.slice/e1gw-trunk@t1.service'

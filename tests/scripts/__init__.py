@@ -1,4 +1,4 @@
-"""The tests of the scripts: python3 -B -m unittest discover -s scripts/tests -t scripts, from the top."""
+"""The tests of the scripts."""
 import os
 import sys
 import tempfile
@@ -7,13 +7,13 @@ from importlib.machinery import SourceFileLoader
 from importlib.util import module_from_spec, spec_from_loader
 from types import ModuleType
 
-SCRIPTS = os.path.dirname(os.path.dirname(os.path.realpath(__file__)))
-TOP = os.path.dirname(SCRIPTS)
+from e1gw_common.programs import TOP
+
+SCRIPTS = os.path.join(TOP, 'scripts')
 
 
 def loaded(name: str) -> ModuleType:
-    """A script as a module, with nothing kept of it."""
-    sys.dont_write_bytecode = True
+    """A script as a module."""
     loader = SourceFileLoader(name.removesuffix('.py'), os.path.join(SCRIPTS, name))
     spec = spec_from_loader(loader.name, loader)
     assert spec is not None

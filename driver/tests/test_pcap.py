@@ -9,7 +9,7 @@ import sys
 import tempfile
 import unittest
 
-from . import TOP
+from .support import TOP
 
 PCAP = os.path.join(TOP, 'bin', 'e1gw-pcap')
 HEAD = bytes.fromhex('D4C3B2A1 0200 0400 00000000 00000000 FFFF0000 65000000')
@@ -54,7 +54,7 @@ def announced_in(capture: bytes) -> list[tuple[float, str]]:
             if struct.unpack_from('>H', body, 2) == (ANNOUNCED,)]
 
 
-class Captures(unittest.TestCase):
+class CaptureTests(unittest.TestCase):
     def test_one_packet(self) -> None:
         made = ran(given=datagram(1, 0)).stdout
         sdp = ('v=0\r\no=- 1 0 IN IP4 192.0.2.1\r\ns=circuit 1\r\nc=IN IP4 192.0.2.1\r\nt=0 0\r\n'
