@@ -1,4 +1,4 @@
-"""Small wrong versions of a module: which there are, what becomes of them, and those that are listed."""
+"""Small wrong versions of a module: which there are, and what becomes of them."""
 import ast
 import contextlib
 import io
@@ -93,12 +93,6 @@ class Edits(unittest.TestCase):
             made = {ast.dump(ast.parse(edit.made(text.encode()))) for edit in edits_of(text)}
             self.assertEqual((len(made), ast.dump(ast.parse(text)) in made), (len(edits_of(text)), False))
 
-    def test_those_that_are_listed(self) -> None:
-        """Each is of a line that its module has: it would be forgotten in silence with the line."""
-        listed = mutants.listed_in(Path(TOP, mutants.LISTED).read_text(encoding='utf-8'))
-        modules = {row.partition(': ')[0] for row in listed}
-        self.assertEqual({*listed} - {each.row() for each in mutants.mutants_of(Path(TOP), modules)}, set())
-
     def test_lines_that_see_it(self) -> None:
         """Those of its statement; whatever uses the module sees one outside of functions."""
         text = 'A = 1\ndef f(a=1):\n    if (a and\n            b == 2):\n        g(3,\n          4)\n'
@@ -114,25 +108,19 @@ class Mutants(FolderCase):
                            ('driver/tests/__init__.py', ''), ('driver/tests/test_numbers.py', TESTS)):
             self.write(path, text)
 
-    def ran(self, *words: str, listed: str = '') -> tuple[int, list[str]]:
-        self.write('scripts/mutants.txt', listed)
+    def ran(self, *words: str) -> tuple[int, list[str]]:
         told = io.StringIO()
         with contextlib.redirect_stdout(told):
             status = mutants.main([*words], Path(self.top))
         return status, told.getvalue().splitlines()
 
     def test_numbers(self) -> None:
-        """Two that change nothing which is tested, and one that no test reaches; then all of them are listed."""
+        """Two that change nothing which is tested, and one that no test reaches."""
         status, told = self.ran('e1gw/numbers')
         self.assertEqual((status, told[-1]), (1, '4 passed, 3 failed'))
         self.assertIn('driver/e1gw/numbers.py:10: a constant changed, reached by no test', told)
-        rows = '\n'.join(line for line in told if line.startswith(('e1gw/numbers: ', '  => ')))
-        self.assertEqual(self.ran('e1gw/numbers', '--left', '43')[1][-1], '4 passed, 0 failed')
-        status, told = self.ran('e1gw/numbers', '--seed', '7', listed=f'# The rows.\n\n{rows}\n  a reason\n')
+        status, told = self.ran('e1gw/numbers', '--left', '43', '--seed', '7')
         self.assertEqual((status, told[-1]), (0, '4 passed, 0 failed'))
-        listed = f'{rows}\n  a reason\ne1gw/numbers: SEVEN = 6\n  => SEVEN = 7\n  another\n'
-        status, told = self.ran('e1gw/numbers', '--count', '3', listed=listed)
-        self.assertEqual((status, told[-1]), (1, '3 passed, 1 failed'))
         with open(f'{self.top}/driver/e1gw/numbers.py', encoding='utf-8') as file:
             self.assertEqual(file.read(), MODULE)
 
