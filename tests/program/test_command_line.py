@@ -36,8 +36,8 @@ REFUSED: list[tuple[list[str], str, str]] = [
     *((["satop", "nowhere", "x", option, value], option, value) for option, value in (
         ("--sequence", "65536"), ("--jitter", "501"), ("--size", "31"), ("--size", "1281"), ("--rtp", "128"))),
     (["trunk", "--config", "x", "--end", "0"], "--control", "Usage: e1gw trunk"),
-    *((["trunk", "--config", "x", "--sockets", words], "--sockets wants descriptors from 3 on, as 3-32", "Usage: e1gw")
-      for words in ("2-5", "5", "5-", "7-6", "3-65536", "3-4-5", "three")),
+    *((["trunk", "--config", "x", "--sockets", words], f"--sockets {words}: descriptors from 3 on are wanted, as 3-32",
+       "Usage: e1gw") for words in ("2-5", "5", "5-", "7-6", "3-65536", "3-4-5", "three")),
     (["serve", "--config", "x", "--control", "y"], "unexpected argument '--control'", "Usage: e1gw serve"),
     (["serve", "--config", "x", "--tell", "y"], "unexpected argument '--tell'", "Usage: e1gw serve"),
     (["check", "--config", "x", "--tell", "y"], "unexpected argument '--tell'", "Usage: e1gw check"),

@@ -72,11 +72,15 @@ FILES = [
            LAW_A)
       for name, path in (("no file", "no-such-file"), ("a folder", "."), ("a path through a file", "trunk.toml/x"))),
     *(Case(f"{name}: no state in the configuration", [name, "--config", "trunk.toml", "--load", "trunk.toml"], b"\x58",
-           b"", "state 1 Short at 0\n", 2, LAW_A) for name in ("replay", "check", "serve")),
+           b"", "state 1 Short at 0 in trunk.toml\n", 2, LAW_A) for name in ("replay", "check", "serve")),
     *(Case(f"state in {path}", ["replay", "--config", "trunk.toml", "--load", path], b"\x58", b"",
-           "cannot read the state\n", 2, LAW_A) for path in ("no-such-file", "/dev/zero")),
+           f"cannot read the state: {path}: {why}\n", 2, LAW_A) for path, why in (
+               ("no-such-file", "No such file or directory (os error 2)"), (".", "Is a directory (os error 21)"),
+               ("trunk.toml/x", "Not a directory (os error 20)"), ("/dev/zero", "longer than any state"))),
     *(Case(f"state saved in {path}", ["replay", "--config", "trunk.toml", "--save", path], b"", b"",
-           "cannot save the state\n", 1, LAW_A) for path in ("no-such-folder/x", "/dev/full")),
+           f"cannot save the state: {path}: {why}\n", 1, LAW_A) for path, why in (
+               ("no-such-folder/x", "No such file or directory (os error 2)"), ("/dev/full", "not a regular file"),
+               (".", "not a regular file"))),
     Case("configuration without end", ["replay", "--config", "/dev/zero"], b"\x58", b"", "config 8 TooLong at 0\n", 2),
 ]
 

@@ -74,7 +74,9 @@ FILTERS = [
     Case("crc4: two frames and an octet", ["crc4"], IDLE * 65, (b"\x55" + IDLE * 31) * 2 + b"\x55"),
     Case("crc4: reports of no error", ["crc4", "--reports", "/dev/zero"], IDLE * 1024, FRAMES),
     *(Case(f"crc4: reports from {path}", ["crc4", "--reports", path], IDLE * 64,
-           err="cannot open the file of --reports\n", status=2) for path in ("/nowhere/reports", "/etc/passwd")),
+           err=f"cannot open the file of --reports: {path}: {why}\n", status=2) for path, why in (
+               ("/nowhere/reports", "No such file or directory (os error 2)"),
+               ("/etc/passwd", "a regular file, and not a FIFO"), ("/", "Is a directory (os error 21)"))),
     *(Case(f"{name}: of nothing", [name]) for name in ("align", "crc4")),
     *(Case(f"{name}: totals", [name, "--totals"], bytes(40), bytes(40), FORTY_COUNTED) for name in ("align", "crc4")),
     *streams("align", ["align"], IDLE * 100),

@@ -27,7 +27,7 @@ HEAD = 24                   # octets of the head of an area
 # A line that becomes idle, and is seized; what comes then finds it in a call.
 HEARD = [multiframe(NOT_SEIZED)] * 20 + [multiframe(SEIZED)] * 20
 pytestmark = pytest.mark.timeout(900)   # seconds, of a program without proof on a loaded machine
-DAMAGED = 'the log of the trunk has no state that can be loaded\n'
+DAMAGED = 'the log of the trunk in {} has no state that can be loaded\n'
 
 
 def config_in(room: Path, law: str = 'A', ptime: int = 20) -> str:
@@ -152,7 +152,7 @@ def test_two_programs(program: Program, log: Path) -> None:
     (log / 'lock').write_text('4' * 12, encoding='ascii')
     with Trunk(program) as trunk:
         trunk.answers(HEARD[0])
-        assert ended(program) == (2, f'the log of the trunk is in use by process {trunk.process.pid}\n')
+        assert ended(program) == (2, f'the log of the trunk in {log} is in use by process {trunk.process.pid}\n')
         assert len(trunk.answers(HEARD[0])) == MULTIFRAME
 
 
@@ -212,10 +212,10 @@ def test_write_that_fails(fault: int | None, later: int, failing: str, program: 
     """A call on the log's files fails, or writes a half. The program says so and ends behind the octets in hand, and
     the next one goes on behind all that was logged; or nothing is to be seen of it. Whoever carries the trunk so many
     multiframes later is killed, and the next one goes on, too."""
-    heard = [*HEARD, *[multiframe(SEIZED)] * later]
+    heard, log = [*HEARD, *[multiframe(SEIZED)] * later], program.room / 'log'
     for at in (*range(1, 8), 20, 39) if not later else (5, 6):
-        shutil.rmtree(program.room / 'log', ignore_errors=True)
-        (program.room / 'log').mkdir()
+        shutil.rmtree(log, ignore_errors=True)
+        log.mkdir()
         ended(program)                      # (this makes the files, by thousands of writes)
         got, logged = b'', list[bytes]()
         with ExitStack() as held:
@@ -223,7 +223,8 @@ def test_write_that_fails(fault: int | None, later: int, failing: str, program: 
             for each in heard:
                 if len(answer := trunk.answers(each)) < len(each):
                     assert fault is not None, f'call {at}'
-                    assert trunk.end() == (1, 'cannot write the log of the trunk\n') or not logged, f'call {at}'
+                    end = 1, f'cannot write the log of the trunk in {log}\n'
+                    assert trunk.end() == end or not logged, f'call {at}'
                     logged, got = logged[:-1], got[:-MULTIFRAME]        # (what was in hand is lost)
                     trunk = held.enter_context(Trunk(program))
                     answer = trunk.answers(each)
@@ -255,7 +256,7 @@ def test_damaged(name: str, places: range, program: Program, log: Path) -> None:
     before = path.read_bytes()[:places.stop]
     for at in places:
         overwrite(path, at, bytes([before[at] ^ 1]))
-        assert ended(program) == (2, DAMAGED), f'octet {at}'
+        assert ended(program) == (2, DAMAGED.format(log)), f'octet {at}'
         overwrite(path, at, before[at:at + 1])
     assert ended(program) == (0, '')
 
@@ -289,10 +290,11 @@ def test_full_disk(program: Program, log: Path) -> None:
     """The disk is full, or takes all but 512 octets of a file: the octets that are wanted are told, before anything is
     read."""
     for run in limited(program, 8_388_608 - 512), program:
-        assert ended(run) == (1, 'the log of the trunk wants 17301504 octets\n')
+        assert ended(run) == (1, f'the log of the trunk in {log} wants 17301504 octets\n')
         (log / 'records.1').unlink(missing_ok=True)
         os.symlink('/dev/full', log / 'records.1')
 
 
 def test_no_folder(program: Program) -> None:
-    assert ended(program) == (2, 'cannot open the log of the trunk\n')
+    path = program.room / 'log' / 'lock'
+    assert ended(program) == (2, f'cannot open the log of the trunk: {path}: No such file or directory (os error 2)\n')

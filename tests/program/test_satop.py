@@ -30,11 +30,17 @@ CASES = [
     Case("satop: no octets", ["satop", *ENDS], b"", b"", Like(r"satop received=0 sent=0 .*\n")),
     Case("satop: three packets and a half", ["satop", *ENDS, "--size", "32"], IDLE * 112, b"",
          Like(r"satop received=0 sent=3 .*\n")),
-    Case("satop: no frames", ["satop", *ENDS, "--size", "33"], err="error: --size is not a multiple of 32\n", status=2),
-    Case("satop: no address", ["satop", "nowhere", "FAR"], err="cannot open the socket of the circuit\n", status=1),
+    Case("satop: no frames", ["satop", *ENDS, "--size", "33"], err="error: --size 33 is not a multiple of 32\n",
+         status=2),
+    *(Case(f"satop: {name}", ["satop", *words], err=f"cannot open the socket of the circuit: {why}\n", status=1)
+      for name, words, why in (
+          ("no port", ["1", "2"], "1 is no HOST:PORT"), ("no port of the peer", ["NEAR", "2"], "2 is no HOST:PORT"),
+          ("no port of --from", [*ENDS, "--from", "127.0.0.1"], "127.0.0.1 is no HOST:PORT"),
+          ("another machine's address", ["192.0.2.1:5000", "FAR"],
+           "192.0.2.1:5000: Cannot assign requested address (os error 99)"),
+          ("a far end at all hosts", ["NEAR", "255.255.255.255:9"],     # (ip(7), EACCES)
+           "255.255.255.255:9: Permission denied (os error 13)"))),
     Case("satop from closed", ["satop", *ENDS], CLOSED, err="fault 5 Read\n", status=1),
-    Case("satop: a far end at all hosts", ["satop", "NEAR", "255.255.255.255:9"],    # (ip(7), EACCES)
-         err="cannot open the socket of the circuit\n", status=1),
 ]
 
 
@@ -42,6 +48,13 @@ CASES = [
 def test_circuit(case: Case, program: Program) -> None:
     ends = dict(zip(ENDS, (f"127.0.0.1:{port}" for port in free_ports(2))))
     assert program.ran(replace(case, words=[ends.get(word, word) for word in case.words])) == case.wanted
+
+
+def test_port_in_use(program: Program) -> None:
+    with bind_socket("127.0.0.1") as held:
+        near = f"127.0.0.1:{held.getsockname()[1]}"
+        assert program.run("satop", near, "127.0.0.1:9") == (
+            b"", f"cannot open the socket of the circuit: {near}: Address already in use (os error 98)\n", 1)
 
 
 @contextlib.contextmanager

@@ -54,7 +54,8 @@ REPLAY = [
               record(b"R", 1, bytes([0x4B, answer])))
       for codec, kind, answer in ((3, 8, 31), (4, 8, 31), (1, 0, 31), (5, 95, 31), (1, 8, 0), (1, 96, 0), (3, 127, 0))),
     Case("replay: no socket of --tell", ["replay", "--config", "trunk.toml", "--tell", "/nowhere/told"], b"\x58",
-         err="cannot open the socket of --tell\n", status=2, config=b'law = "A"'),
+         err="cannot open the socket of --tell: /nowhere/told: No such file or directory (os error 2)\n", status=2,
+         config=LAW_A),
 ]
 
 DROPPED = " 1 outgoing fault       10 --          0          0          1 pcma      8"
@@ -87,6 +88,14 @@ TRUNKS = [
     gateway("6336 octets", "trunk", TWO_FRAMES[4:] * 99, begins(b"", 99 * 64)),
     *streams("trunk", TRUNK, TWO_FRAMES[4:], LAW_A),
     gateway("nothing to a full device", "trunk", to=FULL),
+    *(Case(f"trunk: {name}", [*TRUNK, *words], err=f"{told}\n", status=1 if "--end" in words else 2, config=LAW_A)
+      for name, words, told in (
+          ("no folder for --control", ["--control", "/nowhere/x"],
+           "cannot open the control socket: /nowhere/x: No such file or directory (os error 2)"),
+          ("a file for --control", ["--control", "trunk.toml"],
+           "cannot open the control socket: trunk.toml: Address already in use (os error 98)"),
+          ("no descriptor of --end", ["--control", "door", "--end", "77"],
+           "cannot wait for --end 77: Bad file descriptor (os error 9)"))),
     Case("trunk: no totals behind a fault", [*TRUNK, "--totals", "--crc4"], TWO_FRAMES[4:], err="fault 6 Write\n",
          status=1, config=LAW_A, to=FULL),
 ]

@@ -154,7 +154,7 @@ def test_changed_state(given: bytes, config: dict[str, Any], place: int | str, o
     at = place if isinstance(place, int) else multiframe_and_circuit(state)[1] + int(place)
     changed = state[:at] if octet is None else state[:at] + bytes([octet]) + state[at + 1:]
     (program.room / 'changed').write_bytes(with_sum(changed))
-    assert replay(program, b'', '--load', 'changed', **config) == (b'', f'state 6 Value at {told}\n', 2)
+    assert replay(program, b'', '--load', 'changed', **config) == (b'', f'state 6 Value at {told} in changed\n', 2)
 
 
 def put(place: int, octet: int) -> Callable[[bytes], bytes]:
@@ -177,17 +177,18 @@ def put(place: int, octet: int) -> Callable[[bytes], bytes]:
 def test_no_state(change: Callable[[bytes], bytes], is_summed: bool, told: str, program: Program) -> None:
     state = saved(program, b'')
     (program.room / 'changed').write_bytes(with_sum(change(state[:-SUM])) if is_summed else change(state))
-    assert replay(program, b'', '--load', 'changed') == (b'', f'state {told}\n', 2)
+    assert replay(program, b'', '--load', 'changed') == (b'', f'state {told} in changed\n', 2)
 
 
 # ---- files and sockets ----
 
-@pytest.mark.parametrize('device', ['/dev/full', '/dev/null'])
-def test_state_that_is_not_saved(device: str, program: Program) -> None:
+@pytest.mark.parametrize('device, why', [('/dev/full', 'No space left on device (os error 28)'),
+                                         ('/dev/null', 'Invalid argument (os error 22)')])
+def test_state_that_is_not_saved(device: str, why: str, program: Program) -> None:
     """A disk does not take it (full(4)) or keep it (fsync(2), EINVAL): the one before stays, nothing beside."""
     before = saved(program, b'')
     os.symlink(device, program.room / 'state.new')
-    assert replay(program, SEIZE, '--save', 'state')[1:] == ('cannot save the state\n', 1)
+    assert replay(program, SEIZE, '--save', 'state')[1:] == (f'cannot save the state: state: {why}\n', 1)
     assert (program.room / 'state').read_bytes() == before
     assert not os.path.lexists(program.room / 'state.new')
 
@@ -195,14 +196,16 @@ def test_state_that_is_not_saved(device: str, program: Program) -> None:
 def test_socket_of_tell(program: Program) -> None:
     """A socket at which nobody listens is replaced, by one of the mode 0660. Another one stays, also if it is full
     (connect(2), EAGAIN), and so does a link to one."""
-    path, refused = str(program.room / 'door'), ('cannot open the socket of --tell\n', 2)
+    path = str(program.room / 'door')
     with socket.socket(socket.AF_UNIX) as full, socket.socket(socket.AF_UNIX) as client:
         full.bind(f'{path}.full')
         full.listen(0)
         client.connect(f'{path}.full')
         os.symlink(path, f'{path}.link')
         ended = [replay(program, b'', '--tell', path + end)[1:] for end in ('', '', '.full', '.link')]
-    assert ended == [('', 0), ('', 0), refused, refused]
+    assert ended == [('', 0), ('', 0), *(
+        (f'cannot open the socket of --tell: {path}{end}: Address already in use (os error 98)\n', 2)
+        for end in ('.full', '.link'))]
     assert stat.S_IMODE(os.stat(path).st_mode) == 0o660
 
 
