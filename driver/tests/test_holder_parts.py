@@ -189,9 +189,22 @@ class HeldLogTests(FolderCase):
             self.assertTrue(again.put_back(self.log))
             self.assertEqual({name: support.text_of(f'{self.log}/{name}') for name in os.listdir(self.log)},
                              {name: f'of {name}' for name in log.FILES})
-            held = log.HeldLog({})
-            held.hold(self.log)
+            # what a program writes there is not written over, if it ends before it is known to be up
+            self.assertTrue(again.are_in(self.log))
+            self.assertFalse(again.put_back(self.log))
+            held = again
         self.assertFalse(os.path.exists(f'{self.log}.new'))
+
+    def test_no_room_to_put_back(self) -> None:
+        """No part is left, which would keep full what is full; there is room later."""
+        held = log.HeldLog({})
+        held.hold(self.log)
+        shutil.rmtree(self.log)
+        with mock.patch.object(log, 'copy', side_effect=[None, OSError(28, 'x')]), self.assertRaises(OSError):
+            held.put_back(self.log)
+        self.assertEqual(os.listdir(self.folder), [])
+        self.assertTrue(held.put_back(self.log))
+        held.close()
 
     def test_all_or_none(self) -> None:
         """A log of which a file is missing is not held."""
@@ -480,7 +493,7 @@ class HeldFolderTests(FolderCase):
     def test_a_log_that_has_no_room(self) -> None:
         """It is put back in memory, if its folder is not there already; else it is tried again."""
         options = mock.Mock(folder=self.path('disk/trunk-0'))
-        holder = mock.Mock(spec=['folder', 'options', 'log'], options=options, folder=options.folder)
+        holder = mock.Mock(spec=['folder', 'options', 'log', 'publish'], options=options, folder=options.folder)
         holder.log.put_back = mock.Mock(side_effect=[OSError(28, 'x'), True, OSError(28, 'x')])
         with mock.patch.object(holder_state, 'MEMORY', self.path('memory')), \
                 mock.patch.object(lifecycle, 'log_line') as said:

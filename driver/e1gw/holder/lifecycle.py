@@ -65,6 +65,7 @@ def put_back_log(holder: Holder) -> None:
             raise
         is_back = holder.log.put_back(f'{holder.folder}/log')
     if is_back:
+        holder.publish()                    # (the next holder goes on from this one, too)
         log_line(Severity.WARNING, 'the log was gone, and is put back')
 
 

@@ -52,16 +52,25 @@ class HeldLog:
             os.close(self._files.popitem()[1])
 
     def put_back(self, folder: str) -> bool:
-        """Has a folder have them again, if it has them no more. Whether it was done. OSError if it cannot be: then it
-        has all of them, or none."""
+        """Has a folder have them again, if it has them no more: copies, which are held in their place (a program writes
+        there, and may end before it is known to be up). Whether it was done. OSError if it cannot be: then it has all
+        of them, or none."""
         if not self._files or self.are_in(folder):
             return False
         remove(new := f'{folder}.new')
         os.mkdir(new, 0o700)
-        for name, file in self._files.items():
-            copy(file, f'{new}/{name}')
+        try:
+            for name, file in self._files.items():
+                copy(file, f'{new}/{name}')
+            copies = HeldLog({})
+            copies.hold(new)
+        except OSError:
+            remove(new)                     # (what is full stays so else)
+            raise
         remove(folder)
         os.rename(new, folder)
+        self.close()
+        self._files = copies._files
         return True
 
 
