@@ -15,7 +15,7 @@ def why(trunks: Iterable[tuple[str, str]], circuit: int, patience: float) -> int
         if not (path := status.files.session_path):
             raise ValueError('it records nothing that could be looked at (--session)')
         try:
-            facts = last_facts(path, circuit, told.get('config_file'))
+            facts = last_facts(path, circuit, status.files.config_file or None)
         except InputError as fault:
             raise ValueError(str(fault)) from None
         print('\n'.join(finding_lines(facts, circuit)), flush=True)
