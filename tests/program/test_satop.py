@@ -105,7 +105,7 @@ def test_beginning(program: Program) -> None:
                 usual.sendto(b"", usual.getsockname())
             waits = sockets_of((Line(1, port=usual.getsockname()[1]), Line(2, port=far.getpeername()[1])))
     assert one[4:8] != two[4:8] and one[8:12] != two[8:12]
-    assert waits[1]["waiting"] < waits[2]["waiting"]
+    assert waits[1].waiting < waits[2].waiting
 
 
 def test_first_number(program: Program) -> None:

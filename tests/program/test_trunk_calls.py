@@ -9,8 +9,9 @@ from typing import Iterator
 import pytest
 
 from .case import Program
+from .udp_calls import CIRCUIT, CONFIG
 from e1gw_common.session import Command, command_record, packet_of, trunk_record
-from e1gw_testing.datagrams import CIRCUIT, CONFIG, PACKET, bind_socket, packets, speech
+from e1gw_testing.datagrams import PACKET, bind_socket, packets, speech
 from e1gw_testing.ports import free_ports
 from e1gw_tools.far_exchange import ACKNOWLEDGED, Exchange
 
