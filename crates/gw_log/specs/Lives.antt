@@ -62,7 +62,8 @@ HaveDone config before (life ∷ lives) logged = (first : List Event) × (rest :
 
 -- However often the program was killed since its log was begun in an empty folder: the packets and the octets
 -- that each start gave out are the first of what answers what it has logged, and all of that but for a part of
--- the last record's, and for packets whose sends failed; and the next start begins with a new gateway behind all that they have logged.
+-- the last record's, and for packets whose sends failed; and the next start begins with a new gateway behind
+-- all that they have logged.
 abbrev pub StartsAnswerTheirLogs : Type 0
 StartsAnswerTheirLogs = (config : GatewayConfig) (disk disk' : Disk) (lives : List Life) (next : Gateway)
     → ConfigFits config → HasNothingWhole disk.first → HasNothingWhole disk.second

@@ -3,7 +3,7 @@ use gw_report::ProgramFault;
 use gw_session::RunFault;
 use std::test::Fail;
 
-// The lines of troubles that a run of the program has no way to meet; scripts/look has the others.
+// The lines of troubles that a run of the program has no way to meet; tests/program has the others.
 #[test]
 fn prints_troubles(rt: HostRuntime) -> Result<(), Fail> {
     for (program_fault, line) in [
@@ -16,7 +16,6 @@ fn prints_troubles(rt: HostRuntime) -> Result<(), Fail> {
             "out of memory",
         ),
         (ProgramFault::OutOfMemory, "out of memory"),
-        (ProgramFault::Trunk, "cannot wait for the trunk"),
     ] {
         let printed = format!(in rt.alloc(); "{program_fault}")?;
         assert!(rt; printed.as_str() == line);
