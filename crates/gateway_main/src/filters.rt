@@ -9,7 +9,7 @@ use gw_filter::{
     crc4_check_stream, crc4_stream,
 };
 use gw_open::open_reports;
-use gw_report::{LiveCounts, ProgramFault, tell_check};
+use gw_report::{LiveCounts, ProgramFault, print_checked};
 use gw_session::{FromRead, RunFault, ToWrite, Totals};
 use std::fs::File;
 use std::rt::{Files, Stdin, Stdout};
@@ -44,7 +44,7 @@ fn check_by<R: ReportSink + Drop>(
 {
     let mut checker = ReportingChecker::new(reports, LiveCounts { rt, live });
     let checked = crc4_check_stream(&mut checker, source, sink)?;
-    tell_check(rt, unreported, &checked);
+    print_checked(rt, unreported, &checked);
     Ok(checked.totals)
 }
 

@@ -1,6 +1,6 @@
 //! What `encode` and `decode` do on standard input and output. They are given no files.
 
-use gw_report::{ProgramFault, tell_skipped};
+use gw_report::{ProgramFault, print_skipped};
 use gw_session::{FromRead, StreamSpec, ToWrite, Totals, decode_stream, encode_stream};
 use std::rt::{Stdin, Stdout};
 
@@ -36,7 +36,7 @@ pub(crate) fn decode(
     let mut sink = ToWrite::new(output);
     match decode_stream(rt.alloc(), stream, &mut source, &mut sink) {
         Ok(totals) => {
-            tell_skipped(rt, &totals);
+            print_skipped(rt, &totals);
             Ok(totals)
         }
         Err(fault) => Err(ProgramFault::Session(fault)),

@@ -5,7 +5,7 @@ use gw_open::{
     begin_gateway, begin_log, end_session, lock_log, open_teller, open_trunk_ports, read_config,
 };
 use gw_report::ProgramFault;
-use gw_session::{Tape, Totals};
+use gw_session::{Observers, Tape, Totals};
 use run_trunk::{open_trunk, serve};
 use std::alloc::{AllocError, Global};
 use std::fs::File;
@@ -31,20 +31,22 @@ pub(crate) fn run(
     let trunk = open_trunk(rt, options, input, output, errors)?;
     let config = read_config(rt, &options.session)?;
     let mut gateway = begin_gateway(rt, &options.session, options.log, &config)?;
-    let mut log = begin_log(rt, options, &config, &gateway)?;
+    let tape = begin_log(rt, options, &config, &gateway)?;
     let mut ports = open_trunk_ports(rt, options, &config)?;
-    let mut teller = open_teller(rt, options.tell, &config, &gateway)?;
+    let watch = open_teller(rt, options.tell, &config, &gateway)?;
+    let mut observers = Observers { tape, watch };
     let law = config.gateway.law;
-    let end = serve(law, &mut gateway, trunk, &mut ports, &mut log, &mut teller);
-    if let Some(teller) = &mut teller {
+    let end = serve(law, &mut gateway, trunk, &mut ports, &mut observers);
+    let Observers { tape, watch } = observers;
+    if let Some(mut teller) = watch {
         teller.end();
     }
     let told = end_session(rt, &options.session, &config, &gateway, end.ended);
-    if log.is_lost() {
+    if tape.is_lost() {
         return Err(log_lost(rt.alloc(), options)?);
     }
     if told.is_ok() && options.session.totals {
-        end.tell(rt);
+        end.print(rt);
     }
     told
 }

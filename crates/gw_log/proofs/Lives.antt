@@ -40,8 +40,8 @@ module _ (left_law : LogsAreLeft) (go_on : LoadedGatewaysGoOn) (one_reading : At
         let stands = stands_now left_law go_on one_reading config fits disk history life.start held is in
         let good = logged_good life.start.log life.start.calls l.0 l.1
         (called_good served.0.begun life.start.log life.start.calls served.0.called) in
-        let did = cut_law config (history ++ wait) life.start.gateway (flat_map spelled l.0) life.sent life.out l.0
-        endings.End stands c (reads_all l.0 good) in
+        let did = cut_law config (history ++ wait) life.start.gateway (flat_map spelled l.0) life.gave l.0 endings.End
+        stands c (reads_all l.0 good) in
         (wait ++ events l.0, inr (l.0, c.inputs, l.1, refl, did), l.2)
 
     -- .. and starts, one behind the other

@@ -16,7 +16,7 @@ ghost use Rattle.gw_log.specs.Logs.{place_after_kept, place_after_loaded, told_b
 
 use crate::checkpoint::checkpoint_place;
 use crate::file_log::{FileLog, LogFault};
-use gw_records::{Answers, RecordHead};
+use gw_records::{Line, RecordHead};
 use gw_session::{PacketPorts, Tape, TrunkRecord, spell};
 use gw_switch::{Gateway, GatewayConfig};
 use log_files::{KeptContents, Loaded, LogFiles, Pair, Store};
@@ -177,22 +177,17 @@ impl<S: Store> Tape for TrunkLog<S> {
         self.log.has_ended()
     }
 
-    fn keep<O: PacketPorts<A>, A: Answers>(
-        &mut self,
-        gateway: &Gateway,
-        _ports: &O,
-        _sink: &A::Sink,
-    )
+    fn keep<O: PacketPorts<L>, L: Line>(&mut self, gateway: &Gateway, _ports: &O, _line: &L)
         ensures learns { Learns (told_by self.old) (told_by self.new)
-            (keeps_at (told_by self.old) gateway.now (gone_to (O.tells _ports.now) (A.tells _sink.now)) ∷ []) }
+            (keeps_at (told_by self.old) gateway.now (gone_to (O.tells _ports.now) (L.output _line.now).sink) ∷ []) }
         ensures kept { Shown self.old self.new gateway.now }
     {
         self.log.keep(gateway);
     }
 
-    fn before_answer<O: PacketPorts<A>, A: Answers>(&mut self, _ports: &O, _sink: &A::Sink)
+    fn before_answer<O: PacketPorts<L>, L: Line>(&mut self, _ports: &O, _line: &L)
         ensures learns { Learns (told_by self.old) (told_by self.new)
-            (answers_at (told_by self.old) (gone_to (O.tells _ports.now) (A.tells _sink.now)) ∷ []) }
+            (answers_at (told_by self.old) (gone_to (O.tells _ports.now) (L.output _line.now).sink) ∷ []) }
         ensures same { self.new ≡ self.old }
     {}
 }

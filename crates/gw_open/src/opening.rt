@@ -5,7 +5,7 @@ use crate::state::keep_gateway;
 use gw_command::{PortOptions, Senders, SessionOptions, TrunkOptions};
 use gw_config::Config;
 use gw_repeat::{Repeating, packet_words};
-use gw_report::{ProgramFault, reason_at, tell_result};
+use gw_report::{ProgramFault, print_result, reason_at};
 use gw_session::{RunFault, Totals};
 use gw_switch::Gateway;
 use gw_tell::Teller;
@@ -146,7 +146,7 @@ pub fn end_session(
     match keep_gateway(rt, &config.gateway, gateway, options.save) {
         Ok(()) => told,
         Err(fault) => {
-            tell_result(rt, false, &told);
+            print_result(rt, false, &told);
             Err(fault)
         }
     }

@@ -14,7 +14,7 @@ use std::io::{self, Write};
 use std::rt::Files;
 
 // Prints which circuits begin as new, since their configuration changed.
-fn tell_renewed(rt: &impl Eprint, old: &GatewayConfig, config: &GatewayConfig) {
+fn print_renewed(rt: &impl Eprint, old: &GatewayConfig, config: &GatewayConfig) {
     for at in 0..config.circuits.len() {
         if old.circuits[at] != config.circuits[at] {
             let circuit = at + 1;
@@ -52,7 +52,7 @@ fn resumed_gateway(
     let contents = log_contents(rt, folder)?;
     match resumed_of(rt.alloc(), config, &contents) {
         Ok(Some(Found { gateway, old })) => {
-            tell_renewed(rt, &old, config);
+            print_renewed(rt, &old, config);
             Ok(Some(gateway))
         }
         Ok(None) => Ok(None),
@@ -76,7 +76,7 @@ fn first_gateway(
     };
     match loaded_of(rt.alloc(), config, octets.as_slice()) {
         Ok(loaded) => {
-            tell_renewed(rt, &loaded.old, config);
+            print_renewed(rt, &loaded.old, config);
             Ok(loaded.gateway)
         }
         Err(fault) => Err(resume_trouble(rt.alloc(), path, fault)),

@@ -3,6 +3,7 @@ pub mod Streams
 pub mod Octets
 pub mod Records
 pub mod Reader
+pub mod Line
 pub mod Laws
 pub mod Outcome
 pub mod Ports

@@ -1,23 +1,21 @@
 //! Records in octets, read and written by sessions of any kind.
 #![tactic(auto)]
 
-mod incoming;
 pub mod laws;
+mod line;
 mod log;
 mod octets;
 mod outcome;
-mod outgoing;
 mod ports;
 mod reader;
 mod records;
 mod streams;
 mod writing;
 
-pub use incoming::{OctetRecords, Records};
+pub use line::{Line, OctetLine};
 pub use log::{AtStart, Log};
 pub use octets::{codec_of, command_of, octet_of_codec, octet_of_command};
 pub use outcome::{NO_TOTALS, RunFault, Totals, answer};
-pub use outgoing::{Answers, OctetAnswers};
 pub use ports::{PortFault, Ports};
 pub use reader::{MAX_READS, Reader, read_behind};
 pub use records::{

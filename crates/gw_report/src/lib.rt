@@ -5,4 +5,6 @@ mod program_fault;
 mod report;
 
 pub use program_fault::{DONE, ProgramFault, REFUSED, reason_at};
-pub use report::{LiveCounts, tell_check, tell_discarded, tell_live, tell_result, tell_skipped};
+pub use report::{
+    LiveCounts, print_checked, print_discarded, print_live, print_result, print_skipped,
+};

@@ -5,12 +5,12 @@ use gw_filter::{Checked, CountsTeller, ReceiverCounts};
 use gw_records::Totals;
 
 // Prints a name and a value.
-fn tell_row(rt: &impl Eprint, name: &str, value: u64) {
+fn print_row(rt: &impl Eprint, name: &str, value: u64) {
     let _ = eprintln!(rt; "{name} {value}");
 }
 
 /// Prints how many datagrams `decode` skipped, if any.
-pub fn tell_skipped(rt: &impl Eprint, totals: &Totals) {
+pub fn print_skipped(rt: &impl Eprint, totals: &Totals) {
     let dropped = totals.dropped;
     let datagrams = totals.records;
     if dropped > 0 {
@@ -19,20 +19,20 @@ pub fn tell_skipped(rt: &impl Eprint, totals: &Totals) {
 }
 
 // Prints the totals of a session, one name and value a line.
-fn tell_totals(rt: &impl Eprint, totals: &Totals) {
-    tell_row(rt, "records", totals.records);
-    tell_row(rt, "octets", totals.octets);
-    tell_row(rt, "datagrams", totals.datagrams);
-    tell_row(rt, "dropped", totals.dropped);
-    tell_row(rt, "port_faults", totals.port_faults);
+fn print_totals(rt: &impl Eprint, totals: &Totals) {
+    print_row(rt, "records", totals.records);
+    print_row(rt, "octets", totals.octets);
+    print_row(rt, "datagrams", totals.datagrams);
+    print_row(rt, "dropped", totals.dropped);
+    print_row(rt, "port_faults", totals.port_faults);
 }
 
 /// Prints a result: its totals if they are asked for, or its fault.
-pub fn tell_result(rt: &impl Eprint, asked: bool, told: &Result<Totals, ProgramFault>) {
-    match told {
+pub fn print_result(rt: &impl Eprint, asked: bool, ended: &Result<Totals, ProgramFault>) {
+    match ended {
         Ok(totals) => {
             if asked {
-                tell_totals(rt, totals);
+                print_totals(rt, totals);
             }
         }
         Err(program_fault) => {
@@ -43,26 +43,26 @@ pub fn tell_result(rt: &impl Eprint, asked: bool, told: &Result<Totals, ProgramF
 
 /// Prints what was counted of CRC-4 multiframes, and if that is asked for how many errored submultiframes
 /// were not reported.
-pub fn tell_check(rt: &impl Eprint, unreported: bool, checked: &Checked) {
+pub fn print_checked(rt: &impl Eprint, unreported: bool, checked: &Checked) {
     let counts = &checked.receiver_counts;
-    tell_row(rt, "submultiframes", counts.submultiframes);
-    tell_row(rt, "errored", counts.errored);
-    tell_row(rt, "far_end_errored", counts.far_end_errored);
-    tell_row(rt, "multiframes_found", counts.found);
-    tell_row(rt, "multiframes_lost", counts.lost);
-    tell_row(rt, "given_up", counts.given_up);
+    print_row(rt, "submultiframes", counts.submultiframes);
+    print_row(rt, "errored", counts.errored);
+    print_row(rt, "far_end_errored", counts.far_end_errored);
+    print_row(rt, "multiframes_found", counts.found);
+    print_row(rt, "multiframes_lost", counts.lost);
+    print_row(rt, "given_up", counts.given_up);
     if unreported {
-        tell_row(rt, "unreported", checked.unreported);
+        print_row(rt, "unreported", checked.unreported);
     }
 }
 
 /// Prints how many multiframes of a trunk were discarded.
-pub fn tell_discarded(rt: &impl Eprint, discarded: u64) {
-    tell_row(rt, "discarded_multiframes", discarded);
+pub fn print_discarded(rt: &impl Eprint, discarded: u64) {
+    print_row(rt, "discarded_multiframes", discarded);
 }
 
 /// Prints the CRC-4 counts up to now as a line.
-pub fn tell_live(rt: &impl Eprint, counts: &ReceiverCounts) {
+pub fn print_live(rt: &impl Eprint, counts: &ReceiverCounts) {
     let _ = eprintln!(rt;
         "live submultiframes {} errored {} far_end_errored {} multiframes_found {} \
          multiframes_lost {} given_up {}",
@@ -91,7 +91,7 @@ impl<E: Eprint> CountsTeller for LiveCounts<'_, E> {
 
     fn tell(&mut self, counts: &ReceiverCounts) {
         if self.live {
-            tell_live(self.rt, counts);
+            print_live(self.rt, counts);
         }
     }
 }

@@ -39,6 +39,8 @@ impl<I: TrunkInput> TrunkInput for WhenReady<I> {
 
     ghost asked = { λ r. I.asked r.incoming };
 
+    ghost told = { λ r. I.told r.incoming };
+
     ghost has_ended = { λ r. I.has_ended r.incoming };
 
     ghost has_failed = { λ r. I.has_failed r.incoming };
@@ -54,6 +56,10 @@ impl<I: TrunkInput> TrunkInput for WhenReady<I> {
 
     fn command(&mut self) -> Option<RecordHead> {
         None
+    }
+
+    fn answer(&mut self, octets: &[u8]) {
+        self.incoming.answer(octets);
     }
 
     fn wait(&mut self) {

@@ -85,11 +85,12 @@ acts_as holds Known More a b (i ∷ inputs) acts f p = (
 follows_more : {put : GatewayConfig → List Event → List SessionInput → List ℕ} {Had : Option (List ℕ) → List ℕ → Type 0}
     {s s' s'' : SessionState} {x y shown z : TapeState} {inputs : List SessionInput} {r : Record} {gone : Gone}
     → Follows put Had s s' x y inputs → Learns y shown (keeps_at y s'.gateway gone ∷ []) → s'.ports.taken ≡ gone.sent
+    → s'.ports.send_failures ≡ gone.failures
     → ((config : GatewayConfig) (before : List Event) → HasHistory config s.gateway before
     → Had gone.written (put config before inputs))
     → (q : ActsOn gone s' s'' shown z r) → Follows put Had s s'' x z (inputs ++ q.input ∷ [])
 follows_more {put} {Had} {s = s} {s' = s'} {s'' = s''} {x = x} {y = y} {shown = shown} {z = z} {inputs = inputs} {gone = gone}
-    p told sent had q = record {
+    p told sent failed had q = record {
       goes = rw (← flat_map_more turns_of [] inputs q.input, ← flat_map_more events_in [] inputs q.input)
           (TurnsTrace-join _ _ _ _ _ _ _ (inputs_octets inputs) p.goes q.goes);
       records = rw (length-append inputs (q.input ∷ []))
@@ -103,7 +104,15 @@ follows_more {put} {Had} {s = s} {s' = s'} {s'' = s''} {x = x} {y = y} {shown = 
         Extends-join x.acts y.acts z.acts p.logs.0 _ p.logs.1
             (Extends-join y.acts shown.acts z.acts _ _ told.told q.told.told),
         acts_more s.holds (StandsBehind put Had s) x y z inputs q.input p.logs.0 s'.gateway gone q.told.gone p.logs.2
-            (record { behind = s'; gateway_is = refl; sent_is = sent; still = p.still; goes = p.goes; had = had })
+            (record {
+              behind = s';
+              gateway_is = refl;
+              sent_is = sent;
+              failures_are = failed;
+              still = p.still;
+              goes = p.goes;
+              had = had;
+            })
             (told_recorded _ _ _ _ _ told q.recorded) (rw (p.same) at q.told.nothing),
       );
       calls = (
@@ -238,7 +247,7 @@ module _ (spells : PacketOutput) (late : ℕ) (sink : SinkState) (Seen : List Se
           record {
             inputs = p.0.inputs ++ q.input ∷ [];
             told_are = rw (map_push input_record p.0.inputs q.input, p.0.told_are, q.told_is);
-            follows = follows_more p.0.follows told refl
+            follows = follows_more p.0.follows told refl refl
                 (λ config before at. (a.waiting, few, p.0.took config before at)) q;
             took = λ config before at. rw (
               but_last_more p.0.inputs q.input,

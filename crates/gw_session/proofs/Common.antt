@@ -25,7 +25,8 @@ pub use Rattle.gw_session.specs.Answers.{Written, written_out, code_of, answers,
 pub use Rattle.gw_session.specs.Answers.{packets_in, events_of, events, answered, as_record, render, packet_in}
 pub use Rattle.gw_session.specs.Answers.{sent_with}
 pub use Rattle.gw_session.specs.Exchange.{TakesEvent, Exchanges, ActsOn, Inputs, written_by, StopsAt, CutTrace}
-pub use Rattle.gw_session.specs.Exchange.{InputTrace, WatchedTrace, ComesInTurn, GoToPorts, OctetTrace}
+pub use Rattle.gw_session.specs.Exchange.{InputTrace, WatchedTrace, ComesInTurn, GoToPorts, OctetTrace, HearsOctet, body_of}
+pub use Rattle.gw_session.specs.Hearing.{CallsSo, HearsOn, HeardSo, IsPaused, calls_so}
 pub use Rattle.gw_session.specs.Exchange.{PacketWriteError, TraceToWriteError, AreShown, IsSilent, packets_held}
 pub use Rattle.gw_session.specs.Exchange.{Receiving, RecordsBehind, IsGiven, FourCome, IsToldFirst, TookBut}
 unfoldable pub use Rattle.gw_session.specs.Exchange.{spelled_for, written_for}
@@ -51,7 +52,8 @@ pub use Rattle.gw_session.specs.Tape.{Gone, gone_to}
 pub use Rattle.gw_session.specs.Watch.{Shows, Look, IsCalled, IsCodeAfter, AreTrue, Watched, InputsShown, RecordsShown}
 pub use Rattle.gw_session.specs.Watch.{OfFirst}
 unfoldable pub use Rattle.gw_session.specs.Watch.{looks_at}
-pub use Rattle.gw_session.specs.World.{Output, World, state_of, SessionState, world_of, output_of, state_with, state_in}
+pub use Rattle.gw_records.specs.Line.{Output}
+pub use Rattle.gw_session.specs.World.{World, state_of, SessionState, output_of, state_with, state_in}
 pub use Rattle.gw_session.specs.World.{world_in, world_with}
 pub use Rattle.gw_switch.specs.Events.{Event, octets}
 unfoldable pub use Rattle.gw_switch.specs.Standing.{HasHistory}

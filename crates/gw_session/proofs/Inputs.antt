@@ -48,22 +48,22 @@ inputs_put spells Shown w w' o out (Err e) on shown first kept puts = (
 -- octets were exchanged, and the record of them was put
 pub trunk_inputs : {spells : PacketOutput} (Shown : List Event → Type 0) (w w' : World) (r n : ℕ)
     (o : Output)
-    {body cleared answer out : List ℕ}
+    {body answer out : List ℕ}
     (result : Result (Unit {0}) RunFault)
-    → (sent : List ℕ) × (x : Exchanges spells
-    (record w.state { totals = record w.state.totals { records = r; octets = n } }) w'.state w.output o body sent)
-    × (answer ≡ cleared ++ sent) × Recorded w.tape w'.tape (events_of_turns x.turns)
+    → (x : Exchanges spells
+    (record w.state { totals = record w.state.totals { records = r; octets = n } }) w'.state w.output o body answer)
+    × Recorded w.tape w'.tape (events_of_turns x.turns)
     × HaveCalls w.state.ports w'.state.ports (AreCalls (are_held w.state.holds x.turns) x.turns)
     × IsToldFirst w.state.holds (gone_to w.state.ports w.output.sink) w.tape w'.tape x.turns
     × Shown (events_of_turns x.turns)
-    → w'.state.holds ≡ w.state.holds → w'.state.held ≡ w.state.held → cleared ≡ [] → out ≡ answer
+    → w'.state.holds ≡ w.state.holds → w'.state.held ≡ w.state.held → out ≡ answer
     → r ≡ min (w.state.totals.records + 1) (2 ^ 64 - 1)
     → n ≡ min (w.state.totals.octets + length body) (2 ^ 64 - 1) → w.state.totals.octets < 2 ^ 64
     → Puts o.sink w'.output.sink w'.output.waiting (o.waiting ++ record_of 84 0 out) result
     → Inputs spells Shown w w' (Record.Trunk body) result
 unfolding written_for answer_to
-trunk_inputs Shown w w' r n o result x holds held none same counts trunk fits puts =
-    let p = x.1 in
+trunk_inputs Shown w w' r n o result x holds held same counts trunk fits puts =
+    let p = x.0 in
     let len = sym (length-map p.turns octet_of) ∙ ap length p.heard in
     inputs_put _ Shown w w' o _ result (record {
       input = SessionInput.Trunk p.turns;
@@ -76,12 +76,12 @@ trunk_inputs Shown w w' r n o result x holds held none same counts trunk fits pu
       };
       records = p.kept.0 ∙ counts;
       octets = p.kept.1 ∙ trunk ∙ rw len (counted_is w.state.totals.octets _ fits);
-      recorded = x.3;
-      told = x.5;
-      calls = x.4;
+      recorded = x.1;
+      told = x.3;
+      calls = x.2;
       same = holds;
       still = held;
-    }) x.6 (grind (arith, append_assoc)) p.no_failure puts
+    }) x.4 (grind (arith, append_assoc)) p.no_failure puts
 
 -- ports have no calls for no turns
 no_calls : (holding : Bool) → AreCalls holding [] []

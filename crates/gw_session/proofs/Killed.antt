@@ -5,7 +5,7 @@ use Rattle.gw_session.proofs.Common.{Bool, length-append, nil_from_length, Appen
 use Rattle.gw_session.proofs.Common.{AllByRecursion, GatewayConfig, Event, HasHistory, Record, Reads, spelled}
 use Rattle.gw_session.proofs.Common.{events, events_of, all_kinds, SessionInput, SessionState, events_in, turns}
 use Rattle.gw_session.proofs.Common.{events_through, packets_for, written, answer_to, LeavesOut, TurnsTrace}
-use Rattle.gw_session.proofs.Common.{given_by}
+use Rattle.gw_session.proofs.Common.{given_by, counted}
 use Rattle.gw_session.proofs.Common.{Recorded, TapeState, Act, Gone, keeps_at, answers_at, AreActs, Gateway}
 use Rattle.gw_session.proofs.Common.{StandsBehind, flat_map-append, append_cancel_left}
 use Rattle.gw_session.specs.Killed.{had_taken, had_gone, IsGoing, at_last, at_next, new_tape, nothing_gone}
@@ -279,15 +279,16 @@ none_first : (last later : List Event) → [] ≡ last ++ later → last ≡ []
 none_first [] later e = refl
 none_first (x ∷ last) later e = absurd (cc e)
 
--- What had gone out behind inputs: these packets, but for those whose sends failed, and the octets but for the last
+-- What had gone out behind inputs: these packets, but for as many as sends had failed, and the octets but for the last
 -- ones.
 record WentOut (config : GatewayConfig) (before : List Event) (inputs : List SessionInput) (gone : Gone)
     (rest : List ℕ)
     : Type 0 where
   took : List (ℕ × List ℕ)
   sent_is : gone.sent ≡ Some took
-  failed : ℕ
-  leaves : LeavesOut failed took (packets_for config before (events_through inputs))
+  left_out : ℕ
+  counted_is : counted 0 left_out ≡ gone.failures
+  leaves : LeavesOut left_out took (packets_for config before (events_through inputs))
   octets : List ℕ
   written_is : gone.written ≡ Some octets
   all : octets ++ rest ≡ written config before inputs
@@ -304,15 +305,17 @@ appends_none (Some xs) more p = ap (λ (ys : List ℕ). Some ys) p
 -- what had gone out of a session that had sent nothing, by the turns that it went through and what it wrote
 went_out : {s s' : SessionState} {inputs : List SessionInput} {gone : Gone} (config : GatewayConfig)
     (before : List Event) (first rest : List ℕ) → HasHistory config s.gateway before → s.ports.taken ≡ Some []
-    → s.held ≡ [] → TurnsTrace s s' (turns inputs) (events_through inputs) → s'.ports.taken ≡ gone.sent
-    → s'.held ≡ s.held → Appends (Some []) gone.written first → first ++ rest ≡ written config before inputs
+    → s.ports.send_failures ≡ 0 → s.held ≡ [] → TurnsTrace s s' (turns inputs) (events_through inputs)
+    → s'.ports.taken ≡ gone.sent → s'.ports.send_failures ≡ gone.failures → s'.held ≡ s.held
+    → Appends (Some []) gone.written first → first ++ rest ≡ written config before inputs
     → WentOut config before inputs gone rest
-went_out {s = s} {s' = s'} {gone = gone} config before first rest at none held goes sent still wrote all =
+went_out {s = s} {s' = s'} {gone = gone} config before first rest at none none_failed held goes sent failed still wrote all =
     let packets = (goes.hears config before at).packets in
     record {
       took = goes.trades.took;
       sent_is = sym sent ∙ extends_none s'.ports.taken goes.trades.took (rw none at goes.trades.takes);
-      failed = goes.trades.failed_sends;
+      left_out = goes.trades.failed_sends;
+      counted_is = sym (rw none_failed at goes.trades.sends) ∙ failed;
       leaves = rw (still, held, append-nil) at packets;
       octets = first;
       written_is = appends_none gone.written first wrote;
@@ -348,7 +351,8 @@ unfolding given_by
 went_nothing config before = record {
   took = [];
   sent_is = refl;
-  failed = 0;
+  left_out = 0;
+  counted_is = refl;
   leaves = (refl, refl);
   octets = [];
   written_is = refl;
@@ -358,12 +362,12 @@ went_nothing config before = record {
 -- the next input is answered, by the first of what answers it at least
 answers_next : (config : GatewayConfig) (before : List Event) {answered others : List SessionInput}
     {fresh : List Event} {next : TapeState} {high : Gone} (sent : List (ℕ × List ℕ)) (out part : List ℕ)
-    (later : List (ℕ × List ℕ)) (behind : List ℕ)
+    (later : List (ℕ × List ℕ)) (behind : List ℕ) (failed : ℕ)
     → (x : Answering (λ inputs gone. (rest : List ℕ) × WentOut config before inputs gone rest) answered others fresh
     next high)
-    → high.sent ≡ Some (sent ++ later) → high.written ≡ Some (out ++ behind)
-    → out ≡ written config before answered ++ part → AnswersNext config before answered others fresh sent part
-answers_next config before {answered = answered} sent out part later behind x sends writes out_is =
+    → high.sent ≡ Some (sent ++ later) → high.written ≡ Some (out ++ behind) → failed ≡ high.failures
+    → out ≡ written config before answered ++ part → AnswersNext config before answered others fresh sent part failed
+answers_next config before {answered = answered} sent out part later behind failed x sends writes counts out_is =
     let most = x.most.1 in
     let took : most.took ≡ sent ++ later = cc (sym most.sent_is ∙ sends) in
     let octets : most.octets ≡ out ++ behind = cc (sym most.written_is ∙ writes) in
@@ -385,7 +389,8 @@ answers_next config before {answered = answered} sent out part later behind x se
       others_are = x.others_are;
       last_is = x.fresh_are;
       unsent = later;
-      failed = most.failed;
+      left_out = most.left_out;
+      counted_is = most.counted_is ∙ sym counts;
       packets_are = rw (took, events_are) at most.leaves;
       rest = behind ++ x.most.0;
       octets_are = append_cancel_left before_it (part ++ (behind ++ x.most.0)) answer whole;
@@ -393,32 +398,37 @@ answers_next config before {answered = answered} sent out part later behind x se
 
 -- however a session is cut off, what it gave out is the beginning of what answers its log
 pub cut_sessions : CutSessionsAnswerTheirLogs
-cut_sessions config before gateway log sent out records ending at_first cut reads =
+cut_sessions config before gateway log gave records ending at_first cut reads =
     let p = cut.follows in
     let stood : HasHistory config cut.session.gateway before = rw (cut.gateway_is) at_first in
     let told : cut.acts ++ cut.later ≡ p.logs.0 = rw (cut.all) at (p.logs.1) in
     let wrote = cut.took config before at_first in
-    let end : Gone = record { sent = cut.session'.ports.taken; written = cut.out' } in
+    let ports = cut.session'.ports in
+    let end : Gone = record { sent = ports.taken; written = cut.out'; failures = ports.send_failures } in
     let last : WentOut config before cut.inputs end wrote.rest = went_out config before wrote.written wrote.rest stood
-    cut.none_sent cut.none_held p.goes refl p.still wrote.appended (sym wrote.whole) in
+    cut.none_sent cut.none_failed cut.none_held p.goes refl refl p.still wrote.appended (sym wrote.whole) in
     let c = cut_any cut.session.holds (StandsBehind written (Appends (Some [])) cut.session)
     (λ inputs gone. WentOut config before inputs gone [])
     (λ inputs gone. (rest : List ℕ) × WentOut config before inputs gone rest) new_tape cut.tape' end cut.inputs cut.acts
     cut.later p.logs.0 refl cut.held
-    (λ first now gone q. went_out config before (written config before first) [] stood cut.none_sent cut.none_held
-    q.goes q.sent_is q.still (q.had config before stood) (append-nil (written config before first)))
+    (λ first now gone q. went_out config before (written config before first) [] stood cut.none_sent cut.none_failed
+    cut.none_held q.goes q.sent_is q.failures_are q.still (q.had config before stood)
+    (append-nil (written config before first)))
     (λ first gone w. ([], w)) (wrote.rest, last) (went_nothing config before)
     (λ gone w. none_went config before gone w.0 w.1) p.logs.2 told cut.going in
-    let sent_low = ap (λ (g : Gone). g.sent) c.low_is in
-    let sent_high = ap (λ (g : Gone). g.sent) c.high_is in
-    let out_low = ap (λ (g : Gone). g.written) c.low_is in
-    let out_high = ap (λ (g : Gone). g.written) c.high_is in
+    let low = cut.low_is ∙ c.low_is in
+    let high = cut.high_is ∙ c.high_is in
+    let sent_low = ap (λ (g : Gone). g.sent) low in
+    let sent_high = ap (λ (g : Gone). g.sent) high in
+    let out_low = ap (λ (g : Gone). g.written) low in
+    let out_high = ap (λ (g : Gone). g.written) high in
+    let counted_is = c.all.counted_is ∙ sym (cut.failed_is ∙ ap (λ (g : Gone). g.failures) low) in
     let first : cut.sends.first ≡ c.all.took = cc (sym cut.sends.low_is ∙ sent_low ∙ c.all.sent_is) in
     let octets : cut.writes.first ≡ c.all.octets = cc (sym cut.writes.low_is ∙ out_low ∙ c.all.written_is) in
     let answers : c.all.octets ≡ written config before c.answered = sym (append-nil c.all.octets) ∙ c.all.all in
-    let out_is : out ≡ written config before c.answered ++ cut.writes.more =
+    let out_is : gave.out ≡ written config before c.answered ++ cut.writes.more =
     cut.writes.xs_are ∙ ap (λ (xs : List ℕ). xs ++ cut.writes.more) (octets ∙ answers) in
-    let sent_are : sent ≡ c.all.took ++ cut.sends.more =
+    let sent_are : gave.sent ≡ c.all.took ++ cut.sends.more =
     cut.sends.xs_are ∙ ap (λ (ps : List (ℕ × List ℕ)). ps ++ cut.sends.more) first in
     let es = events_through c.answered in
     let known' = sym c.taken_next ∙ cut.logged.high_is in
@@ -436,7 +446,8 @@ cut_sessions config before gateway log sent out records ending at_first cut read
             first = c.all.took;
             more = cut.sends.more;
             sent_are = sent_are;
-            failed = c.all.failed;
+            left_out = c.all.left_out;
+            counted_is = counted_is;
             first_are = c.all.leaves;
             part = cut.writes.more;
             out_is = out_is;
@@ -461,11 +472,13 @@ cut_sessions config before gateway log sent out records ending at_first cut read
             first = c.all.took;
             more = cut.sends.more;
             sent_are = sent_are;
-            failed = c.all.failed;
+            left_out = c.all.left_out;
+            counted_is = counted_is;
             first_are = c.all.leaves;
             part = cut.writes.more;
             out_is = out_is;
-            rest_is = inr (answers_next config before sent out cut.writes.more cut.sends.rest cut.writes.rest x
-                (sym sent_high ∙ cut.sends.high_is) (sym out_high ∙ cut.writes.high_is) out_is);
+            rest_is = inr (answers_next config before gave.sent gave.out cut.writes.more cut.sends.rest cut.writes.rest
+                gave.failed_by_next x (sym sent_high ∙ cut.sends.high_is) (sym out_high ∙ cut.writes.high_is)
+                (cut.failed_next_is ∙ ap (λ (g : Gone). g.failures) high) out_is);
           }
     ]

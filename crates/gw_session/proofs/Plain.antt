@@ -8,7 +8,7 @@ use Rattle.gw_session.proofs.Common.{AppendsBut-behind, Written, written_out, pa
 use Rattle.gw_session.proofs.Common.{events, render, replies_to, is_refusal, SessionInput, Turn, input_record, octet_of}
 use Rattle.gw_session.proofs.Common.{turns_of, turns, events_in, events_through, events_of_turns, of_circuit, arrivals}
 use Rattle.gw_session.proofs.Common.{behind_four, FirstFour, PortTrace, Follows, given_by, octets_for, dropped_for}
-use Rattle.gw_session.proofs.Common.{answer_to, but_last, SessionTrace, TapeState, SessionState, state_of, world_of}
+use Rattle.gw_session.proofs.Common.{answer_to, but_last, SessionTrace, TapeState, SessionState, state_of, world_in, output_of, false}
 use Rattle.gw_session.proofs.Common.{spelled_for, written_for, written_by, CutTrace, TraceToWriteError, count_by}
 use Rattle.gw_session.proofs.Common.{take_all, take_at, record_of, AppendsBut-same, AppendsBut-more, five, trunk_octets}
 use Rattle.gw_session.proofs.Common.{run_totals, RunsThrough, AreFirst, RunsUntilWrite, in_record, no_ports, first_four}
@@ -247,7 +247,7 @@ cut_written config before inputs heard rest p q =
 
 -- .. or the first octets of it
 cut_until : {g g' : Gateway} {x y : TapeState} {t : Totals} {s s' : SinkState} (begun : List Record)
-    → CutTrace 65536 in_record (world_of no_ports g nothing_counted x s []) (world_of no_ports g' t y s' []) begun
+    → CutTrace 65536 in_record (world_in false no_ports g nothing_counted x (output_of s [])) (world_in false no_ports g' t y (output_of s' [])) begun
     → RunsUntilWrite g g' s s' begun
 cut_until begun p =
     let k = p.trace in
@@ -310,7 +310,7 @@ seen_first records first last p all seen =
 -- where a write failed in the first octets of a record, a watch was shown the records before it
 seen_before : {W : Type 0} {shows : Shows W} {w w' : W} {g g' : Gateway} {x y : TapeState} {t : Totals}
     {s s' : SinkState} (begun : List Record)
-    → (p : CutTrace 65536 in_record (world_of no_ports g nothing_counted x s []) (world_of no_ports g' t y s' []) begun)
+    → (p : CutTrace 65536 in_record (world_in false no_ports g nothing_counted x (output_of s [])) (world_in false no_ports g' t y (output_of s' [])) begun)
     → InputsShown shows g w w' p.trace.inputs (events_of_turns p.stops.turns)
     → OfFirst (RecordsShown shows g w w') begun
 seen_before begun p seen =
@@ -333,8 +333,8 @@ seen_before begun p seen =
 -- the events of that
 pub runs_until : {W : Type 0} {shows : Shows W} {w w' : W} {g g' : Gateway} {x y : TapeState} {s s' : SinkState}
     (records : List Record)
-    → TraceToWriteError 65536 in_record (InputsShown shows g w w') (world_of no_ports g nothing_counted x s [])
-    (λ totals. world_of no_ports g' totals y s' []) records
+    → TraceToWriteError 65536 in_record (InputsShown shows g w w') (world_in false no_ports g nothing_counted x (output_of s []))
+    (λ totals. world_in false no_ports g' totals y (output_of s' [])) records
     → RunsUntilWrite g g' s s' records × OfFirst (RecordsShown shows g w w') records
 runs_until records v = elim v.1 [
   | inl p ↦ (

@@ -117,24 +117,21 @@ cut_datagram : map (λ n. end_of all_kinds (take n later)) (0 ∷ 1 ∷ 2 ∷ 3 
 unfolding end_of has_bad_kind has_bad_circuit has_bad_length is_cut has_bad_command
 cut_datagram = refl
 
--- the acts for a trunk record with two packets and an answer of two octets, and for another one with none, on a tape
--- that takes an octet for each
+-- the acts for a trunk record with three packets, of which one send failed, and an answer of two octets, and for another
+-- one with none, on a tape that takes an octet for each
 abbrev option_length : {X : Type 0} → Option (List X) → ℕ
 option_length None = 0
 option_length (Some xs) = length xs
 
-abbrev gone : List (ℕ × List ℕ) → List ℕ → Gone
-gone sent written = record { sent = Some sent; written = Some written }
-
-abbrev two : List (ℕ × List ℕ)
-two = (7, 5 ∷ []) ∷ (8, 6 ∷ []) ∷ []
+abbrev two_gone : Gone
+two_gone = record { sent = Some ((7, 5 ∷ []) ∷ (8, 6 ∷ []) ∷ []); written = Some (9 ∷ 9 ∷ []); failures = 1 }
 
 abbrev two_records : Gateway → List Act
 two_records gateway =
     Act.Keeps gateway false (Some []) nothing_gone
     ∷ Act.Answers false (Some (1 ∷ [])) nothing_gone
-    ∷ Act.Keeps gateway false (Some (1 ∷ [])) (gone two (9 ∷ 9 ∷ []))
-    ∷ Act.Answers false (Some (1 ∷ 2 ∷ [])) (gone two (9 ∷ 9 ∷ [])) ∷ []
+    ∷ Act.Keeps gateway false (Some (1 ∷ [])) two_gone
+    ∷ Act.Answers false (Some (1 ∷ 2 ∷ [])) two_gone ∷ []
 
 abbrev each_cut : List ℕ
 each_cut = 0 ∷ 1 ∷ 2 ∷ 3 ∷ 4 ∷ []
@@ -143,9 +140,17 @@ each_cut = 0 ∷ 1 ∷ 2 ∷ 3 ∷ 4 ∷ []
 cut_counts : (gateway : Gateway)
     → (map (λ n. option_length (at_last had_gone nothing_gone (take n (two_records gateway))).sent) each_cut
     ≡ 0 ∷ 0 ∷ 0 ∷ 2 ∷ 2 ∷ [])
-    × (map (λ n. option_length (at_next had_gone (drop n (two_records gateway)) (gone two (9 ∷ 9 ∷ []))).sent) each_cut
+    × (map (λ n. option_length (at_next had_gone (drop n (two_records gateway)) two_gone).sent) each_cut
     ≡ 0 ∷ 0 ∷ 2 ∷ 2 ∷ 2 ∷ [])
 cut_counts gateway = (refl, refl)
+
+-- .. and how many sends had failed
+cut_failures : (gateway : Gateway)
+    → (map (λ n. (at_last had_gone nothing_gone (take n (two_records gateway))).failures) each_cut
+    ≡ 0 ∷ 0 ∷ 0 ∷ 1 ∷ 1 ∷ [])
+    × (map (λ n. (at_next had_gone (drop n (two_records gateway)) two_gone).failures) each_cut
+    ≡ 0 ∷ 0 ∷ 1 ∷ 1 ∷ 1 ∷ [])
+cut_failures gateway = (refl, refl)
 
 -- .. and what the log has at least, and at most
 cut_logs : (gateway : Gateway)

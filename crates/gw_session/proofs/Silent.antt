@@ -52,6 +52,7 @@ serves {s} {s'} {x} {y} {o} records p =
                 behind = q.behind;
                 gateway_is = q.gateway_is;
                 sent_is = q.sent_is;
+                failures_are = q.failures_are;
                 still = q.still;
                 goes = q.goes;
                 had = λ config before at. took_all (rw (answers_alone config before first) at (q.had config before at));

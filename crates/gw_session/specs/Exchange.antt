@@ -1,7 +1,7 @@
 -- What the parts of a session do, for the private functions of modules `exchange`, `handling` and
 -- `processing`.
 use Rattle.std.specs.Prelude.{◌≡◌, ◌⊎◌, ◌<◌, ◌≤◌, ◌++◌, ℕ, List, [], ◌∷◌, length, map, drop, Option, Bool}
-use Rattle.std.specs.Prelude.{Some, Result, MatchResult, flat_map, if◌then◌else◌, true}
+use Rattle.std.specs.Prelude.{Some, None, Result, MatchOption, MatchResult, flat_map, if◌then◌else◌, take, true, false}
 use Rattle.gw_session.specs.Prelude.{GatewayConfig, Gateway, Event, octets, HasHistory, next_circuit, Totals}
 use Rattle.gw_session.specs.Prelude.{RunFault, Record, SinkState, AppendsPrefix, AppendsBut, Waiting}
 use Rattle.gw_session.specs.Prelude.{PortsState, IfKnown, Extends, counted}
@@ -18,7 +18,9 @@ use Rattle.gw_session.specs.Serve.{of_circuit, coming, first_four, behind_four, 
 use Rattle.gw_session.specs.Serve.{packets_for, octets_for, dropped_for, through, OfFirstInputs}
 use Rattle.gw_session.specs.Tape.{TapeState, Recorded, Taping, RecordedBut, Gone, gone_to, answers_at}
 use Rattle.gw_session.specs.Watch.{Shows, Look, shown_in, IsCalled, looks_at}
-use Rattle.gw_session.specs.World.{SessionState, Output, World}
+use Rattle.gw_records.specs.Line.{Output}
+use Rattle.gw_records.specs.declared.records.FirstRecord.{FirstRecord}
+use Rattle.gw_session.specs.World.{SessionState, World}
 use Rattle.gw_session.specs.declared.held.HeldPacket.{HeldPacket}
 
 -- the gateway took an event, and the number of its reply is this
@@ -147,11 +149,24 @@ pub record PacketWriteError (spells : PacketOutput) (s s' : SessionState) (o o' 
       × ((octet_reply config before octet).packet ≡ Some packet)
   pub breaks : FailsAfterPrefix o.sink o'.sink (o.waiting ++ spells packet)
 
-abbrev pub Hearing : Bool → PacketOutput → SessionState → SessionState → Output → Output → ℕ
-    → Result ℕ RunFault → Type 0
-Hearing holding spells s s' o o' octet result = MatchResult result
-    (λ sent. OctetTrace holding spells s s' o o' octet sent)
-    (λ e. (e ≡ Write) × PacketWriteError spells s s' o o' octet)
+-- The gateway heard an octet, and the one that it sends is behind the others of the answer. The packet that it
+-- sends with it is held behind the others, if packets are held; if not, it is in the room, and its circuit is
+-- named.
+pub record HearsOctet (holding : Bool) (gateway gateway' : Gateway) (held held' : List (ℕ × List ℕ))
+    (answer answer' : List ℕ) (octet : ℕ) (room : List ℕ) (named : Option ℕ) : Type 0 where
+  pub sent : ℕ
+  pub behind : answer' ≡ answer ++ sent ∷ []
+  pub packet : Option (ℕ × List ℕ)
+  pub hears : (config : GatewayConfig) (before : List Event) → HasHistory config gateway before
+      → HasHistory config gateway' (before ++ Event.Octet octet ∷ [])
+      × (octet_reply config before octet ≡ record { octet = sent; packet = packet })
+  pub held_are : held' ≡ held ++ (if holding then packet_in packet else [])
+  pub now : MatchOption named (holding ≡ false → packet ≡ None)
+      (λ circuit. (holding ≡ false) × (packet ≡ Some (circuit, room)))
+
+-- the octets of the first record, if it is the trunk's
+abbrev pub body_of : FirstRecord → List ℕ → List ℕ
+body_of first octets = drop 4 (take first.len octets)
 
 -- The gateway heard octets, each after the datagrams that came before it, these were sent, and what the
 -- packets put passes.
@@ -194,13 +209,13 @@ pub record IsToldFirst (holds : Bool) (before : Gone) (tape tape' : TapeState) (
   pub told : Extends tape.acts tape'.acts (answers_at tape' gone ∷ [])
   pub nothing : are_held holds ts ≡ true → gone ≡ before
 
--- octets, those to send behind those of the answer; they and the datagrams that came were recorded, before
+-- octets, and those to send are the answer; they and the datagrams that came were recorded, before
 -- the packets that were held were sent; and the datagrams were shown
-abbrev pub ExchangingAll : PacketOutput → (List Event → Type 0) → World → World → List ℕ → List ℕ → List ℕ
+abbrev pub ExchangingAll : PacketOutput → (List Event → Type 0) → World → World → List ℕ → List ℕ
     → Result (Unit {0}) RunFault → Type 0
-ExchangingAll spells Shown w w' octets answer answer' result = MatchResult result
-    (λ _. (sent : List ℕ) × (x : Exchanges spells w.state w'.state w.output w'.output octets sent)
-    × (answer' ≡ answer ++ sent) × Recorded w.tape w'.tape (events_of_turns x.turns)
+ExchangingAll spells Shown w w' octets answer result = MatchResult result
+    (λ _. (x : Exchanges spells w.state w'.state w.output w'.output octets answer)
+    × Recorded w.tape w'.tape (events_of_turns x.turns)
     × HaveCalls w.state.ports w'.state.ports (AreCalls (are_held w.state.holds x.turns) x.turns)
     × IsToldFirst w.state.holds (gone_to w.state.ports w.output.sink) w.tape w'.tape x.turns
     × Shown (events_of_turns x.turns))

@@ -14,6 +14,7 @@ pub mod World
 pub mod Serve
 pub mod Watch
 pub mod Exchange
+pub mod Hearing
 pub mod ServeLaws
 pub mod RecordingLaws
 pub mod Recovery

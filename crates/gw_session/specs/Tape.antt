@@ -9,14 +9,15 @@ use Rattle.gw_records.specs.Records.{spelled}
 use Rattle.gw_session.specs.Answers.{events}
 use Rattle.gw_session.specs.Running.{all_kinds}
 
--- what had gone to the ports and the sink of a session, where it is known: packets with their circuits, and
--- octets
+-- what had gone to the ports and the sink of a session, where it is known, packets with their circuits, and
+-- octets; and how many sends had failed
 pub record Gone : Type 0 where
   pub sent : Option (List (ℕ × List ℕ))
   pub written : Option (List ℕ)
+  pub failures : ℕ
 
 abbrev pub gone_to : PortsState → SinkState → Gone
-gone_to ports sink = record { sent = ports.taken; written = sink.taken }
+gone_to ports sink = record { sent = ports.taken; written = sink.taken; failures = ports.send_failures }
 
 -- What a session does between two writes to its tape: it shows the tape its gateway, or it answers, by packets
 -- and octets, what the tape has. With it is what the tape had then: whether it had ended and, where they are

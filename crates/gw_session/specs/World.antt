@@ -1,5 +1,6 @@
 -- What a session changes.
-use Rattle.std.specs.Prelude.{List, [], ℕ, Bool, false}
+use Rattle.std.specs.Prelude.{◌≡◌, ◌^◌, List, [], ℕ, Bool, false}
+use Rattle.gw_records.specs.Line.{Input, Output, Terms}
 use Rattle.gw_session.specs.Prelude.{Gateway, Totals, SinkState, PortsState}
 use Rattle.gw_session.specs.Tape.{TapeState}
 
@@ -11,11 +12,6 @@ pub record SessionState : Type 0 where
   pub totals : Totals
   pub holds : Bool
   pub held : List (ℕ × List ℕ)
-
--- What a session writes to: the state of its sink, and the octets that wait to be written to it.
-pub record Output : Type 0 where
-  pub sink : SinkState
-  pub waiting : List ℕ
 
 -- All that a session changes, with the state of its tape.
 pub record World : Type 0 where
@@ -38,16 +34,19 @@ state_of = state_in false
 abbrev pub output_of : SinkState → List ℕ → Output
 output_of sink waiting = record { sink = sink; waiting = waiting }
 
-abbrev pub world_with : Bool → List (ℕ × List ℕ) → PortsState → Gateway → Totals → TapeState → SinkState
-    → List ℕ → World
-world_with holds held ports gateway totals tape sink waiting = record {
+abbrev pub world_with : Bool → List (ℕ × List ℕ) → PortsState → Gateway → Totals → TapeState → Output → World
+world_with holds held ports gateway totals tape output = record {
   state = state_with holds held ports gateway totals;
   tape = tape;
-  output = output_of sink waiting;
+  output = output;
 }
 
-abbrev pub world_in : Bool → PortsState → Gateway → Totals → TapeState → SinkState → List ℕ → World
+abbrev pub world_in : Bool → PortsState → Gateway → Totals → TapeState → Output → World
 world_in holds = world_with holds []
 
-abbrev pub world_of : PortsState → Gateway → Totals → TapeState → SinkState → List ℕ → World
-world_of = world_in false
+-- a line of which nothing is held and to which nothing waits to be written, where each answer is written at once
+pub record IsNew (input : Input) (output : Output) (terms : Terms) : Type 0 where
+  pub none_held : input.held.octets ≡ []
+  pub turns : input.held.reads_left ≡ 2 ^ 62
+  pub none_waits : output.waiting ≡ []
+  pub at_once : terms.late ≡ 0

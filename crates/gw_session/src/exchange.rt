@@ -9,6 +9,7 @@ ghost use Rattle.gw_session.specs.Answers.{code_of};
 ghost use Rattle.gw_session.specs.Exchange.{AreShown, IsGiven};
 
 use crate::held::{HeldPackets, send_held, send_packet};
+use crate::observers::Observers;
 use crate::packet_ports::PacketPorts;
 use crate::receive_room::ReceiveRoom;
 use crate::tape::{Batch, Tape, batch_arrival, record_octets};
@@ -16,7 +17,7 @@ use crate::watch::Watch;
 use arrayvec::ArrayVec;
 use g704_cas::CircuitNo;
 use gw_circuit::Datagram;
-use gw_records::{Answers, NO_TOTALS, RunFault, Totals};
+use gw_records::{FirstRecord, Line, NO_TOTALS, RecordHead, RunFault, Totals};
 use gw_switch::Gateway;
 
 // How many datagrams are received before one octet.
@@ -74,6 +75,7 @@ pub struct SessionBuffers {
     pub answer: ArrayVec<u8, 65_535>,
     /// 0, or the number of the refusal that the last record was answered with.
     pub code: u8,
+    // The packet of the last octet, if it had one.
     datagram: Datagram,
     held: HeldPackets,
     // Whether the packets of the record that is acted on are held.
@@ -86,15 +88,18 @@ pub struct SessionBuffers {
 }
 
 impl SessionBuffers {
-    ghost use Rattle.std.specs.Prelude.{◌≡◌, ◌+◌, ◌<◌, ◌≤◌, ◌^◌, ◌∷◌, ◌++◌, [], length, OnOk, OnErr, true};
-    ghost use Rattle.std.specs.Prelude.{◌&&◌, nat_le, vec_capacity, if◌then◌else◌};
+    ghost use Rattle.std.specs.Prelude.{◌≡◌, ◌+◌, ◌<◌, ◌≤◌, ◌^◌, [], length, true};
+    ghost use Rattle.std.specs.Prelude.{◌&&◌, nat_le, vec_capacity, IfSome};
     ghost use Rattle.gw_records.specs.Outcome.{nothing_counted};
-    ghost use Rattle.gw_records.specs.Records.{longest_body};
+    ghost use Rattle.gw_records.specs.Ports.{KeepsSends};
+    ghost use Rattle.gw_records.specs.Records.{IsFirst, longest_body};
     ghost use Rattle.gw_records.specs.Streams.{CanCount, Puts};
-    ghost use Rattle.gw_session.specs.Exchange.{ComesInTurn, GoToPorts, Hearing, ExchangingAll, IsSilent};
+    ghost use Rattle.gw_records.specs.declared.records.AcceptedKinds.{AcceptedKinds};
+    ghost use Rattle.gw_session.specs.Exchange.{ComesInTurn, ExchangingAll, HearsOctet, IsSilent, body_of};
     ghost use Rattle.gw_session.specs.Exchange.{packets_held};
+    ghost use Rattle.gw_session.specs.Hearing.{HearsAll, HearsOn};
     ghost use Rattle.gw_session.specs.Tape.{taping};
-    ghost use Rattle.gw_session.specs.World.{state_with, output_of, world_in};
+    ghost use Rattle.gw_session.specs.World.{state_with, world_in, world_with};
 
     /// Before the first record.
     pub fn new(room: ReceiveRoom, held: HeldPackets) -> SessionBuffers
@@ -115,7 +120,7 @@ impl SessionBuffers {
     }
 
     // Begins a record of this many octets of the trunk, before which the ports look for datagrams.
-    fn begin_record<O: PacketPorts<A>, A: Answers>(
+    fn begin_record<O: PacketPorts<L>, L: Line>(
         &mut self,
         gateway: &Gateway,
         packet_ports: &mut O,
@@ -126,126 +131,73 @@ impl SessionBuffers {
         ensures empty { self.new.held.packets.items ≡ [] }
         ensures holds { self.new.held.holds ≡ self.old.held.holds }
         ensures batch { self.new.batch.items ≡ [] }
+        ensures answer { self.new.answer.items ≡ [] }
         ensures others { self.new ≡ record self.old {
+          answer = self.new.answer;
           recorded = 0;
           batch = self.new.batch;
           holding = self.new.holding;
           held = self.new.held;
         } }
     {
+        self.answer.clear();
         self.recorded = 0;
         self.batch.clear();
         self.holding = self.held.begin(len);
         packet_ports.look_for_datagrams(gateway);
     }
 
-    // Sends the packet that goes with an octet, or holds it.
-    #[inline(never)]
-    fn send_or_hold<O: PacketPorts<A>, A: Answers>(
-        &mut self,
-        circuit: CircuitNo,
-        packet_ports: &mut O,
-        answers: &mut A,
-        sink: &mut A::Sink,
-    ) -> Result<(), RunFault>
-        requires writes { CanCount (A.tells sink.old).failures }
-        requires silent { self.old.holding ≡ true → IsSilent O.spells }
+    // Gives an octet to the gateway, and puts the one to send behind those of the answer. The packet that goes
+    // with it is held, or its circuit is returned, if packets are not held. (It is inlined, so that an octet saves no
+    // registers for it.)
+    #[inline(always)]
+    fn hear_octet(&mut self, gateway: &mut Gateway, octet: u8) -> Option<CircuitNo>
+        requires fits { length self.old.answer.items < longest_body }
         requires room { self.old.holding ≡ true
             → length self.old.held.packets.items < vec_capacity self.old.held.packets }
-        ensures sends { OnOk result (GoToPorts (O.tells packet_ports.old) (O.tells packet_ports.new)
-            self.old.totals self.new.totals
-            (if self.old.holding then [] else (circuit, self.old.datagram.items) ∷ [])) }
-        ensures held { OnOk result (packets_held self.new.held.packets.items
-            ≡ packets_held self.old.held.packets.items
-            ++ (if self.old.holding then (circuit, self.old.datagram.items) ∷ [] else [])) }
-        ensures puts { Puts (A.tells sink.old) (A.tells sink.new) (A.waiting answers.new)
-            (A.waiting answers.old ++ O.spells (circuit, self.old.datagram.items)) result }
-        ensures kept { OnErr result (O.tells packet_ports.new ≡ O.tells packet_ports.old) }
-        ensures still { self.old.holding ≡ true
-            → (packet_ports.new ≡ packet_ports.old) × (sink.new ≡ sink.old) }
-        ensures some { OnErr result (0 < length (O.spells (circuit, self.old.datagram.items))) }
-        ensures late { A.late answers.new ≡ A.late answers.old }
+        ensures hears { HearsOctet self.old.holding gateway.old gateway.new
+            (packets_held self.old.held.packets.items) (packets_held self.new.held.packets.items)
+            self.old.answer.items self.new.answer.items octet self.new.datagram.items result }
         ensures memory { vec_capacity self.new.held.packets ≡ vec_capacity self.old.held.packets }
         ensures holds { self.new.held.holds ≡ self.old.held.holds }
         ensures others { self.new ≡ record self.old {
-          totals = self.new.totals;
-          held = self.new.held;
-        } }
-    {
-        if self.holding {
-            self.held.push(circuit, &self.datagram);
-            return Ok(());
-        }
-        send_packet(
-            circuit,
-            &self.datagram,
-            packet_ports,
-            &mut self.totals,
-            answers,
-            sink,
-        )
-    }
-
-    // Gives an octet to the gateway, sends or holds the packet that goes with it, and returns the octet to
-    // send.
-    #[inline]
-    fn receive_octet<O: PacketPorts<A>, A: Answers>(
-        &mut self,
-        gateway: &mut Gateway,
-        packet_ports: &mut O,
-        octet: u8,
-        answers: &mut A,
-        sink: &mut A::Sink,
-    ) -> Result<u8, RunFault>
-        requires writes { CanCount (A.tells sink.old).failures }
-        requires silent { self.old.holding ≡ true → IsSilent O.spells }
-        requires room { self.old.holding ≡ true
-            → length self.old.held.packets.items < vec_capacity self.old.held.packets }
-        ensures hears { Hearing self.old.holding O.spells
-            (state_with self.old.held.holds (packets_held self.old.held.packets.items)
-            (O.tells packet_ports.old) gateway.old self.old.totals)
-            (state_with self.old.held.holds (packets_held self.new.held.packets.items)
-            (O.tells packet_ports.new) gateway.new self.new.totals)
-            (output_of (A.tells sink.old) (A.waiting answers.old))
-            (output_of (A.tells sink.new) (A.waiting answers.new)) octet result }
-        ensures still { self.old.holding ≡ true
-            → (packet_ports.new ≡ packet_ports.old) × (sink.new ≡ sink.old) }
-        ensures late { A.late answers.new ≡ A.late answers.old }
-        ensures memory { vec_capacity self.new.held.packets ≡ vec_capacity self.old.held.packets }
-        ensures holds { self.new.held.holds ≡ self.old.held.holds }
-        ensures others { self.new ≡ record self.old {
-          totals = self.new.totals;
+          answer = self.new.answer;
           datagram = self.new.datagram;
           held = self.new.held;
         } }
     {
         let out = gateway.octet_into(octet, &mut self.datagram);
-        if let Some(circuit) = out.circuit {
-            self.send_or_hold(circuit, packet_ports, answers, sink)?;
+        self.answer.push(out.octet);
+        if !self.holding {
+            return out.circuit;
         }
-        Ok(out.octet)
+        if let Some(circuit) = out.circuit {
+            self.held.push(circuit, &self.datagram);
+        }
+        None
     }
 
     // Receives the datagrams that wait at the circuit whose slot the next octet sends, four at most, puts
     // them into the batch behind the octets that were heard, gives them to the gateway and shows them to the
     // watch. (It is inlined, since mostly nothing waits: then an octet saves no registers for it.)
     #[inline(always)]
-    fn receive_datagrams<O: PacketPorts<A>, A: Answers, T: Tape, W: Watch>(
+    fn receive_datagrams<O: PacketPorts<L>, L: Line, T: Tape, W: Watch>(
         &mut self,
         gateway: &mut Gateway,
         packet_ports: &mut O,
-        tape: &mut T,
         heard: &[u8],
-        watch: &mut W,
+        observers: &mut Observers<T, W>,
     )
         requires short { length heard.now < 2 ^ 16 }
         requires within { self.old.recorded ≤ length heard.now }
-        ensures comes { ComesInTurn (AreShown W.shows gateway.old watch.old watch.new (length heard.now))
+        ensures comes { ComesInTurn
+            (AreShown W.shows gateway.old observers.old.watch observers.new.watch (length heard.now))
             (state_with self.old.held.holds (packets_held self.old.held.packets.items)
             (O.tells packet_ports.old) gateway.old self.old.totals)
             (state_with self.old.held.holds (packets_held self.old.held.packets.items)
             (O.tells packet_ports.new) gateway.new self.new.totals)
-            (taping (T.tells tape.old) self.old.batch.items) (taping (T.tells tape.new) self.new.batch.items)
+            (taping (T.tells observers.old.tape) self.old.batch.items)
+            (taping (T.tells observers.new.tape) self.new.batch.items)
             heard.now self.old.recorded self.new.recorded }
         ensures others { self.new ≡ record self.old {
           totals = self.new.totals;
@@ -263,9 +215,10 @@ impl SessionBuffers {
                     let fresh = &heard[self.recorded..];
                     let room = &self.room;
                     let octets = &room.octets[..n];
-                    batch_arrival(tape, &mut self.batch, fresh, circuit, octets);
+                    batch_arrival(&mut observers.tape, &mut self.batch, fresh, circuit, octets);
                     self.recorded = heard.len();
                     let totals = &mut self.totals;
+                    let watch = &mut observers.watch;
                     let code = give_shown(gateway, heard.len(), circuit, octets, totals, watch);
                     packet_ports.judge_datagram(circuit, code == 0);
                 }
@@ -278,52 +231,129 @@ impl SessionBuffers {
         }
     }
 
-    /// Gives octets to the gateway, each after the datagrams that wait at the circuit whose slot is sent with
-    /// it, and puts the octets to send behind those of the answer. The ports look for datagrams before the
-    /// first octet. All are recorded when it returns, mostly in one write: the octets are cut where datagrams
-    /// came. The packets of up to 2,048 octets are sent behind that, if this session holds packets. (It is
-    /// apart from the loop over records, so that what an octet needs is in registers.)
+    // Hears the octets of a record behind those that were heard, each after the datagrams that wait at the
+    // circuit whose slot is sent with it, up to the first one whose packet is to be sent before the next is
+    // heard: its circuit is returned. Nothing is sent or written, but for what a full batch records.
     #[inline(never)]
-    pub fn exchange_all<O: PacketPorts<A>, A: Answers, T: Tape, W: Watch>(
+    fn hear<O: PacketPorts<L>, L: Line, T: Tape, W: Watch>(
         &mut self,
         gateway: &mut Gateway,
         packet_ports: &mut O,
         octets: &[u8],
-        answers: &mut A,
-        sink: &mut A::Sink,
-        tape: &mut T,
-        watch: &mut W,
-    ) -> Result<(), RunFault>
-        requires fits { length self.old.answer.items + length octets.now ≤ longest_body }
+        observers: &mut Observers<T, W>,
+    ) -> Option<CircuitNo>
         requires short { length octets.now < 2 ^ 16 }
-        requires writes { CanCount (A.tells sink.old).failures }
-        requires silent { self.old.held.holds ≡ true → IsSilent O.spells }
-        ensures exchanges { ExchangingAll O.spells (AreShown W.shows gateway.old watch.old watch.new 0)
-            (world_in self.old.held.holds (O.tells packet_ports.old) gateway.old self.old.totals
-            (T.tells tape.old) (A.tells sink.old) (A.waiting answers.old))
-            (world_in self.old.held.holds (O.tells packet_ports.new) gateway.new self.new.totals
-            (T.tells tape.new) (A.tells sink.new) (A.waiting answers.new))
-            octets.now self.old.answer.items self.new.answer.items result }
-        ensures late { A.late answers.new ≡ A.late answers.old }
+        requires heard { length self.old.answer.items ≤ length octets.now }
+        requires within { self.old.recorded ≤ length self.old.answer.items }
+        requires holds { self.old.holding ≡ true → (self.old.held.holds ≡ true) × (length octets.now ≤ 2048) }
+        requires room { self.old.holding ≡ true
+            → length self.old.held.packets.items ≤ length self.old.answer.items }
+        requires silent { self.old.holding ≡ true → IsSilent O.spells }
+        ensures hears { HearsOn W.shows observers.old.watch observers.new.watch self.old.holding O.spells
+            (state_with self.old.held.holds (packets_held self.old.held.packets.items)
+            (O.tells packet_ports.old) gateway.old self.old.totals)
+            (state_with self.old.held.holds (packets_held self.new.held.packets.items)
+            (O.tells packet_ports.new) gateway.new self.new.totals)
+            (taping (T.tells observers.old.tape) self.old.batch.items)
+            (taping (T.tells observers.new.tape) self.new.batch.items)
+            octets.now self.old.recorded self.new.recorded self.old.answer.items self.new.answer.items
+            self.new.datagram.items result }
+        ensures onward { IfSome result (λ _. length self.old.answer.items < length self.new.answer.items) }
+        ensures within { length self.new.answer.items ≤ length octets.now }
+        ensures no_sends { KeepsSends (O.tells packet_ports.old) (O.tells packet_ports.new) }
+        ensures holding { self.new.holding ≡ self.old.holding }
         ensures holds { self.new.held.holds ≡ self.old.held.holds }
     {
-        self.begin_record(gateway, packet_ports, octets.len());
-        for i in 0..octets.len() {
+        for i in self.answer.len()..octets.len() {
             let heard = &octets[..i];
-            self.receive_datagrams(gateway, packet_ports, tape, heard, watch);
-            let sent = self.receive_octet(gateway, packet_ports, octets[i], answers, sink)?;
-            self.answer.push(sent);
+            self.receive_datagrams::<O, L, T, W>(gateway, packet_ports, heard, observers);
+            if let Some(circuit) = self.hear_octet(gateway, octets[i]) {
+                return Some(circuit);
+            }
         }
-        record_octets(tape, &mut self.batch, &octets[self.recorded..]);
-        tape.before_answer::<O, A>(packet_ports, sink);
-        let held = &self.held;
-        send_held(
-            held.packets.as_slice(),
-            packet_ports,
-            &mut self.totals,
-            answers,
-            sink,
+        None
+    }
+
+    // Hears all octets of a record that was begun. A packet that is not held is sent before the next octet is
+    // heard.
+    fn hear_all<O: PacketPorts<L>, L: Line, T: Tape, W: Watch>(
+        &mut self,
+        gateway: &mut Gateway,
+        packet_ports: &mut O,
+        first: &FirstRecord,
+        line: &mut L,
+        observers: &mut Observers<T, W>,
+    ) -> Result<(), RunFault>
+        requires first { (kinds : AcceptedKinds) × IsFirst kinds first.now (L.input line.old).held.octets }
+        requires trunk { first.now.head ≡ RecordHead.Trunk }
+        requires writes { CanCount (L.output line.old).sink.failures }
+        requires silent { self.old.held.holds ≡ true → IsSilent O.spells }
+        requires unheard { (self.old.answer.items ≡ []) × (self.old.recorded ≡ 0) }
+        requires empty { (self.old.batch.items ≡ []) × (self.old.held.packets.items ≡ []) }
+        requires holding { self.old.holding ≡ (self.old.held.holds
+            && nat_le (length (body_of first.now (L.input line.old).held.octets)) 2048) }
+        ensures hears { HearsAll W.shows observers.old.watch observers.new.watch self.old.holding O.spells
+            (world_in self.old.held.holds (O.tells packet_ports.old) gateway.old self.old.totals
+            (T.tells observers.old.tape) (L.output line.old))
+            (world_with self.old.held.holds (packets_held self.new.held.packets.items)
+            (O.tells packet_ports.new) gateway.new self.new.totals
+            (T.tells observers.new.tape) (L.output line.new))
+            self.new.batch.items (body_of first.now (L.input line.old).held.octets) self.new.recorded
+            self.new.answer.items result }
+        ensures input { L.input line.new ≡ L.input line.old }
+        ensures terms { L.terms line.new ≡ L.terms line.old }
+        ensures holds { self.new.held.holds ≡ self.old.held.holds }
+    {
+        'hearing: loop {
+            let octets = line.body(first);
+            let paused = self.hear::<O, L, T, W>(gateway, packet_ports, octets, observers);
+            let Some(circuit) = paused else {
+                return Ok(());
+            };
+            let packet = &self.datagram;
+            send_packet(circuit, packet, packet_ports, &mut self.totals, line)?;
+        }
+    }
+
+    /// Gives the octets of a record to the gateway, each after the datagrams that wait at the circuit whose
+    /// slot is sent with it, and has the octets to send as the answer. The ports look for datagrams before the
+    /// first octet. All are recorded when it returns, mostly in one write: the octets are cut where datagrams
+    /// came. The packets of up to 2,048 octets are sent behind that, if this session holds packets.
+    pub fn exchange_all<O: PacketPorts<L>, L: Line, T: Tape, W: Watch>(
+        &mut self,
+        gateway: &mut Gateway,
+        packet_ports: &mut O,
+        first: &FirstRecord,
+        line: &mut L,
+        observers: &mut Observers<T, W>,
+    ) -> Result<(), RunFault>
+        requires first { (kinds : AcceptedKinds) × IsFirst kinds first.now (L.input line.old).held.octets }
+        requires trunk { first.now.head ≡ RecordHead.Trunk }
+        requires writes { CanCount (L.output line.old).sink.failures }
+        requires silent { self.old.held.holds ≡ true → IsSilent O.spells }
+        ensures exchanges { ExchangingAll O.spells
+            (AreShown W.shows gateway.old observers.old.watch observers.new.watch 0)
+            (world_in self.old.held.holds (O.tells packet_ports.old) gateway.old self.old.totals
+            (T.tells observers.old.tape) (L.output line.old))
+            (world_in self.old.held.holds (O.tells packet_ports.new) gateway.new self.new.totals
+            (T.tells observers.new.tape) (L.output line.new))
+            (body_of first.now (L.input line.old).held.octets) self.new.answer.items result }
+        ensures input { L.input line.new ≡ L.input line.old }
+        ensures terms { L.terms line.new ≡ L.terms line.old }
+        ensures holds { self.new.held.holds ≡ self.old.held.holds }
+    {
+        self.begin_record::<O, L>(gateway, packet_ports, line.body(first).len());
+        self.hear_all(gateway, packet_ports, first, line, observers)?;
+        let octets = line.body(first);
+        record_octets(
+            &mut observers.tape,
+            &mut self.batch,
+            &octets[self.recorded..],
         );
+        observers.tape.before_answer::<O, L>(packet_ports, line);
+        let held = &self.held;
+        let packets = held.packets.as_slice();
+        send_held(packets, packet_ports, &mut self.totals, line);
         Ok(())
     }
 }

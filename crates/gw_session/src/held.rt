@@ -8,7 +8,7 @@ ghost use Rattle.gw_session.specs.Exchange.{IsSilent, GoToPorts, packets_held};
 use crate::packet_ports::PacketPorts;
 use g704_cas::CircuitNo;
 use gw_circuit::Datagram;
-use gw_records::{Answers, RunFault, Totals};
+use gw_records::{Line, RunFault, Totals};
 use std::alloc::{AllocError, Global};
 
 // The octets of the longest record whose packets are held: as many as a trunk's have at most. Each octet
@@ -78,24 +78,24 @@ impl HeldPackets {
 }
 
 /// Sends a packet of a circuit, and counts it, or that it did not go out.
-pub fn send_packet<O: PacketPorts<A>, A: Answers>(
+pub fn send_packet<O: PacketPorts<L>, L: Line>(
     circuit: CircuitNo,
     packet: &Datagram,
     packet_ports: &mut O,
     totals: &mut Totals,
-    answers: &mut A,
-    sink: &mut A::Sink,
+    line: &mut L,
 ) -> Result<(), RunFault>
-    requires writes { CanCount (A.tells sink.old).failures }
+    requires writes { CanCount (L.output line.old).sink.failures }
     ensures sends { OnOk result (GoToPorts (O.tells packet_ports.old) (O.tells packet_ports.new) totals.old
         totals.new ((circuit, packet.now.items) ∷ [])) }
-    ensures puts { Puts (A.tells sink.old) (A.tells sink.new) (A.waiting answers.new)
-        (A.waiting answers.old ++ O.spells (circuit, packet.now.items)) result }
-    ensures late { A.late answers.new ≡ A.late answers.old }
+    ensures puts { Puts (L.output line.old).sink (L.output line.new).sink (L.output line.new).waiting
+        ((L.output line.old).waiting ++ O.spells (circuit, packet.now.items)) result }
+    ensures input { L.input line.new ≡ L.input line.old }
+    ensures terms { L.terms line.new ≡ L.terms line.old }
     ensures kept { OnErr result (O.tells packet_ports.new ≡ O.tells packet_ports.old) }
     ensures some { OnErr result (0 < length (O.spells (circuit, packet.now.items))) }
 {
-    if packet_ports.send_datagram(circuit, packet.as_slice(), answers, sink)? {
+    if packet_ports.send_datagram(circuit, packet.as_slice(), line)? {
         totals.datagrams = totals.datagrams.saturating_add(1);
     } else {
         totals.port_faults = totals.port_faults.saturating_add(1);
@@ -104,32 +104,25 @@ pub fn send_packet<O: PacketPorts<A>, A: Answers>(
 }
 
 /// Sends the packets that are held.
-pub fn send_held<O: PacketPorts<A>, A: Answers>(
+pub fn send_held<O: PacketPorts<L>, L: Line>(
     held: &[HeldPacket],
     packet_ports: &mut O,
     totals: &mut Totals,
-    answers: &mut A,
-    sink: &mut A::Sink,
+    line: &mut L,
 )
-    requires writes { CanCount (A.tells sink.old).failures }
+    requires writes { CanCount (L.output line.old).sink.failures }
     requires silent { 0 < length held.now → IsSilent O.spells }
     ensures sends { GoToPorts (O.tells packet_ports.old) (O.tells packet_ports.new) totals.old totals.new
         (packets_held held.now) }
-    ensures passes { TakesAllButWaiting (A.tells sink.old).taken (A.tells sink.new).taken
-        (A.waiting answers.new) (A.waiting answers.old) }
-    ensures no_failure { (A.tells sink.new).failures ≡ (A.tells sink.old).failures }
-    ensures late { A.late answers.new ≡ A.late answers.old }
+    ensures passes { TakesAllButWaiting (L.output line.old).sink.taken (L.output line.new).sink.taken
+        (L.output line.new).waiting (L.output line.old).waiting }
+    ensures no_failure { (L.output line.new).sink.failures ≡ (L.output line.old).sink.failures }
+    ensures input { L.input line.new ≡ L.input line.old }
+    ensures terms { L.terms line.new ≡ L.terms line.old }
 {
     for i in 0..held.len() {
         let packet = &held[i];
         // (No write of it fails, since it puts nothing in front of the answer.)
-        let _ = send_packet(
-            packet.circuit,
-            &packet.octets,
-            packet_ports,
-            totals,
-            answers,
-            sink,
-        );
+        let _ = send_packet(packet.circuit, &packet.octets, packet_ports, totals, line);
     }
 }

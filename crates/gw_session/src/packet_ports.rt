@@ -6,12 +6,12 @@ ghost use Rattle.gw_records.specs.Ports.{PortsState, Receives, CountsFault, Keep
 ghost use Rattle.gw_session.specs.PacketPorts.{PacketOutput, silent, in_record, no_ports, Went};
 
 use g704_cas::CircuitNo;
-use gw_records::{Answers, OctetAnswers, PortFault, Ports, RunFault, Sink};
+use gw_records::{Line, OctetLine, PortFault, Ports, RunFault, Sink, Source};
 use gw_switch::Gateway;
 use q421_line::State;
 
 /// Where the packets of a session go, and where datagrams come from beside its records.
-pub trait PacketPorts<A: Answers> {
+pub trait PacketPorts<L: Line> {
     /// What its ports tell.
     ghost tells: { Self → PortsState };
     /// What a packet puts in front of the answer.
@@ -44,14 +44,14 @@ pub trait PacketPorts<A: Answers> {
         &mut self,
         circuit: CircuitNo,
         packet: &[u8],
-        answers: &mut A,
-        sink: &mut A::Sink,
+        line: &mut L,
     ) -> Result<bool, RunFault>
         requires len { length packet.now ≤ 252 }
-        requires writes { CanCount (A.tells sink.old).failures }
-        ensures puts { Puts (A.tells sink.old) (A.tells sink.new) (A.waiting answers.new)
-            (A.waiting answers.old ++ spells (circuit, packet.now)) result }
-        ensures late { A.late answers.new ≡ A.late answers.old }
+        requires writes { CanCount (L.output line.old).sink.failures }
+        ensures puts { Puts (L.output line.old).sink (L.output line.new).sink (L.output line.new).waiting
+            ((L.output line.old).waiting ++ spells (circuit, packet.now)) result }
+        ensures input { L.input line.new ≡ L.input line.old }
+        ensures terms { L.terms line.new ≡ L.terms line.old }
         ensures went { IfOk result (λ went. Went (tells self.old) (tells self.new) circuit went packet.now) }
         ensures receives_stay { KeepsReceives (tells self.old) (tells self.new) }
         ensures kept { OnErr result (tells self.new ≡ tells self.old) }
@@ -62,7 +62,7 @@ pub trait PacketPorts<A: Answers> {
 #[derive(Drop)]
 pub struct InRecords;
 
-impl<K: Sink> PacketPorts<OctetAnswers<K>> for InRecords {
+impl<'a, S: Source, K: Sink> PacketPorts<OctetLine<'a, S, K>> for InRecords {
     ghost tells = { λ s. no_ports };
 
     ghost spells = { in_record };
@@ -88,10 +88,9 @@ impl<K: Sink> PacketPorts<OctetAnswers<K>> for InRecords {
         &mut self,
         circuit: CircuitNo,
         packet: &[u8],
-        answers: &mut OctetAnswers<K>,
-        sink: &mut K,
+        line: &mut OctetLine<'a, S, K>,
     ) -> Result<bool, RunFault> {
-        answers.put_packet(circuit, packet, sink)?;
+        line.put_packet(circuit, packet)?;
         Ok(true)
     }
 }
@@ -117,7 +116,7 @@ fn close_paths<P: Ports>(ports: &mut P, gateway: &Gateway)
     }
 }
 
-impl<P: Ports, A: Answers> PacketPorts<A> for P {
+impl<P: Ports, L: Line> PacketPorts<L> for P {
     ghost tells = { P.tells };
 
     ghost spells = { silent };
@@ -145,8 +144,7 @@ impl<P: Ports, A: Answers> PacketPorts<A> for P {
         &mut self,
         circuit: CircuitNo,
         packet: &[u8],
-        _answers: &mut A,
-        _sink: &mut A::Sink,
+        _line: &mut L,
     ) -> Result<bool, RunFault> {
         Ok(self.send(circuit, packet).is_ok())
     }

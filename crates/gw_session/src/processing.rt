@@ -8,105 +8,99 @@ ghost use Rattle.gw_records.specs.Outcome.{nothing_counted, EndsAll, EndsUntil};
 ghost use Rattle.gw_session.specs.Exchange.{written_by, TookBut, WatchedTrace, TraceToWriteError};
 ghost use Rattle.gw_session.specs.Exchange.{IsSilent};
 ghost use Rattle.gw_session.specs.Watch.{InputsShown};
-ghost use Rattle.gw_session.specs.World.{state_in, world_in};
+ghost use Rattle.gw_session.specs.World.{output_of, state_in, world_in};
 
 use crate::exchange::SessionBuffers;
+use crate::observers::Observers;
 use crate::packet_ports::PacketPorts;
 use crate::tape::Tape;
 use crate::watch::Watch;
-use gw_records::{AcceptedKinds, Answers, Records, RecordsEnd, RunFault, Totals, answer};
+use gw_records::{AcceptedKinds, Line, RecordsEnd, RunFault, Totals, answer};
 use gw_switch::Gateway;
 
-// Takes more of the source, as `Records::read_on` does, unless the tape is lost and the records can be ended.
-fn read_more<R: Records, T: Tape>(
+// Takes more of the source, as `Line::read_on` does, unless the tape is lost and the records can be ended.
+fn read_more<L: Line, T: Tape>(
     kinds: &AcceptedKinds,
     ending: RecordsEnd,
-    records: &mut R,
-    source: &mut R::Source,
+    line: &mut L,
     tape: &T,
 ) -> Result<bool, RunFault>
-    requires ends { end_of kinds.now (R.holds records.old).octets ≡ Some ending }
-    requires reads { CanCount (R.tells source.old).failures }
-    ensures ok { IfOk result (λ came. ReadsOn (R.tells source.old) (R.tells source.new)
-        (R.holds records.old) (R.holds records.new) ending came) }
-    ensures fault { IfErr result (λ e. (e ≡ RunFault.Read) × FailsToRead (R.tells source.old)
-        (R.tells source.new) (R.holds records.old) (R.holds records.new) ending) }
-    ensures kept { R.stops ≡ true → ending ≡ RecordsEnd.End → OnOk result (T.is_lost tape.now ≡ false) }
+    requires ends { end_of kinds.now (L.input line.old).held.octets ≡ Some ending }
+    requires reads { CanCount (L.input line.old).source.failures }
+    ensures ok { IfOk result (λ came. ReadsOn (L.input line.old).source (L.input line.new).source
+        (L.input line.old).held (L.input line.new).held ending came) }
+    ensures fault { IfErr result (λ e. (e ≡ RunFault.Read) × FailsToRead (L.input line.old).source
+        (L.input line.new).source (L.input line.old).held (L.input line.new).held ending) }
+    ensures kept { L.stops ≡ true → ending ≡ RecordsEnd.End → OnOk result (T.is_lost tape.now ≡ false) }
+    ensures output { L.output line.new ≡ L.output line.old }
+    ensures terms { L.terms line.new ≡ L.terms line.old }
 {
     if tape.is_lost() {
-        records.stop(ending, source)?;
+        line.stop(ending)?;
     }
-    records.read_on(kinds, ending, source)
+    line.read_on(kinds, ending)
 }
 
-/// Gives a gateway the records of the source, of these kinds, records on a tape what it takes, and shows a
+/// Gives a gateway the records of the line, of these kinds, records on the tape what it takes, and shows the
 /// watch each datagram and then each record when the gateway has acted on it. Before each record the tape is
 /// shown the gateway. If the tape is lost, the session ends before the next read, where its records can be
 /// ended. It is inlined, so that a session tests for no other kinds than its own.
 #[inline(always)]
-pub(crate) fn process_records<O: PacketPorts<A>, R: Records, A: Answers, T: Tape, W: Watch>(
+pub(crate) fn process_records<O: PacketPorts<L>, L: Line, T: Tape, W: Watch>(
     kinds: &AcceptedKinds,
-    records: &mut R,
-    answers: &mut A,
     session: &mut SessionBuffers,
     gateway: &mut Gateway,
     packet_ports: &mut O,
-    source: &mut R::Source,
-    sink: &mut A::Sink,
-    tape: &mut T,
-    watch: &mut W,
+    line: &mut L,
+    observers: &mut Observers<T, W>,
 ) -> Result<Totals, RunFault>
-    requires begins { CanBegin (R.tells source.old) (A.tells sink.old) }
-    requires holds { (R.holds records.old).octets ≡ [] }
-    requires turns { (R.holds records.old).reads_left ≡ 2 ^ 62 }
+    requires begins { CanBegin (L.input line.old).source (L.output line.old).sink }
+    requires holds { (L.input line.old).held.octets ≡ [] }
+    requires turns { (L.input line.old).held.reads_left ≡ 2 ^ 62 }
     requires totals { session.old.totals ≡ nothing_counted }
-    requires waiting { A.waiting answers.old ≡ [] }
+    requires waiting { (L.output line.old).waiting ≡ [] }
     requires silent { session.old.held.holds ≡ true → IsSilent O.spells }
-    ensures ok { IfOk result (EndsAll kinds.now
-        (R.tells source.old) (R.tells source.new) (A.tells sink.old) (A.tells sink.new)
-        (λ totals. WatchedTrace (written_by O.spells) (TookBut (A.late answers.old) (A.tells sink.old).taken)
+    ensures ok { IfOk result (EndsAll kinds.now (L.input line.old).source (L.input line.new).source
+        (L.output line.old).sink (L.output line.new).sink
+        (λ totals. WatchedTrace (written_by O.spells)
+        (TookBut (L.terms line.old).late (L.output line.old).sink.taken)
         (state_in session.old.held.holds (O.tells packet_ports.old) gateway.old nothing_counted)
         (state_in session.old.held.holds (O.tells packet_ports.new) gateway.new totals)
-        (T.tells tape.old) (T.tells tape.new)
-        (λ first. Appends (A.tells sink.old).taken (A.tells sink.new).taken)
-        (λ inputs. InputsShown W.shows gateway.old watch.old watch.new inputs []))) }
-    ensures kept { R.stops ≡ true → OnOk result (T.is_lost tape.new ≡ false) }
-    ensures fault { IfErr result (EndsUntil kinds.now
-        (R.tells source.old) (R.tells source.new) (A.tells sink.old) (A.tells sink.new)
-        (λ totals. WatchedTrace (written_by O.spells) (TookBut (A.late answers.old) (A.tells sink.old).taken)
+        (T.tells observers.old.tape) (T.tells observers.new.tape)
+        (λ first. Appends (L.output line.old).sink.taken (L.output line.new).sink.taken)
+        (λ inputs. InputsShown W.shows gateway.old observers.old.watch observers.new.watch inputs []))) }
+    ensures kept { L.stops ≡ true → OnOk result (T.is_lost observers.new.tape ≡ false) }
+    ensures fault { IfErr result (EndsUntil kinds.now (L.input line.old).source (L.input line.new).source
+        (L.output line.old).sink (L.output line.new).sink
+        (λ totals. WatchedTrace (written_by O.spells)
+        (TookBut (L.terms line.old).late (L.output line.old).sink.taken)
         (state_in session.old.held.holds (O.tells packet_ports.old) gateway.old nothing_counted)
         (state_in session.old.held.holds (O.tells packet_ports.new) gateway.new totals)
-        (T.tells tape.old) (T.tells tape.new)
-        (λ first. Appends (A.tells sink.old).taken (A.tells sink.new).taken)
-        (λ inputs. InputsShown W.shows gateway.old watch.old watch.new inputs []))
-        (TraceToWriteError (A.late answers.old) O.spells
-        (InputsShown W.shows gateway.old watch.old watch.new)
+        (T.tells observers.old.tape) (T.tells observers.new.tape)
+        (λ first. Appends (L.output line.old).sink.taken (L.output line.new).sink.taken)
+        (λ inputs. InputsShown W.shows gateway.old observers.old.watch observers.new.watch inputs []))
+        (TraceToWriteError (L.terms line.old).late O.spells
+        (InputsShown W.shows gateway.old observers.old.watch observers.new.watch)
         (world_in session.old.held.holds (O.tells packet_ports.old) gateway.old nothing_counted
-        (T.tells tape.old) (A.tells sink.old) [])
+        (T.tells observers.old.tape) (output_of (L.output line.old).sink []))
         (λ totals. world_in session.old.held.holds (O.tells packet_ports.new) gateway.new totals
-        (T.tells tape.new) (A.tells sink.new) []))) }
+        (T.tells observers.new.tape) (output_of (L.output line.new).sink [])))) }
+    ensures terms { L.terms line.new ≡ L.terms line.old }
 {
     'handling: loop {
-        match records.first(kinds) {
+        match line.first(kinds) {
             Ok(first) => {
-                tape.keep::<O, A>(gateway, packet_ports, sink);
-                let body = records.body(&first);
-                session.handle_record(
-                    gateway,
-                    packet_ports,
-                    first.head,
-                    body,
-                    answers,
-                    sink,
-                    tape,
-                    watch,
-                )?;
-                watch.after(&first.head, body, session.code, gateway);
-                records.pass(&first);
+                observers.tape.keep::<O, L>(gateway, packet_ports, line);
+                session.handle_record(gateway, packet_ports, &first, line, observers)?;
+                let body = line.body(&first);
+                observers
+                    .watch
+                    .after(&first.head, body, session.code, gateway);
+                line.pass(&first);
             }
             Err(ending) => {
-                answers.write_out(sink)?;
-                if !read_more(kinds, ending, records, source, tape)? {
+                line.write_out()?;
+                if !read_more(kinds, ending, line, &observers.tape)? {
                     return answer(ending, session.totals);
                 }
             }

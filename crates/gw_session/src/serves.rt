@@ -1,20 +1,19 @@
 //! A session whose datagrams come and go through ports, also with a log (`serve`, `serve_logged`).
-ghost use Rattle.std.specs.Prelude.{◌≡◌, ◌^◌, [], IfOk, IfErr, OnOk, false, true};
+ghost use Rattle.std.specs.Prelude.{◌≡◌, IfOk, IfErr, OnOk, false, true};
 ghost use Rattle.gw_records.specs.Streams.{CanBegin};
 ghost use Rattle.gw_session.specs.Tape.{no_tape};
 ghost use Rattle.gw_session.specs.Serve.{ServesAll, ServesUntil, around, around_in, around_log};
 ghost use Rattle.gw_session.specs.Watch.{InputsShown, ServesWatched};
+ghost use Rattle.gw_session.specs.World.{IsNew};
 
 use crate::exchange::SessionBuffers;
 use crate::held::HeldPackets;
+use crate::observers::Observers;
 use crate::processing::process_records;
 use crate::receive_room::ReceiveRoom;
-use crate::tape::{NoTape, Tape};
-use crate::watch::{NoWatch, Watch};
-use gw_records::{
-    AcceptedKinds, Answers, OctetAnswers, OctetRecords, Ports, Records, RunFault, Sink, Source,
-    Totals,
-};
+use crate::tape::Tape;
+use crate::watch::Watch;
+use gw_records::{AcceptedKinds, Line, OctetLine, Ports, Reader, RunFault, Sink, Source, Totals};
 use gw_switch::Gateway;
 use std::alloc::Global;
 
@@ -67,109 +66,105 @@ pub fn serve<S: Source, P: Ports, K: Sink>(
         (around (S.tells source.new) (K.tells sink.new) (P.tells ports.new) no_tape)
         gateway.old gateway.new) }
 {
+    let Ok(mut reader) = Reader::new(alloc) else {
+        return Err(RunFault::OutOfMemory);
+    };
+    let mut line = OctetLine::new(&mut reader, source, sink, true);
     let held = HeldPackets::none(alloc);
-    serve_holding::<OctetRecords<S>, OctetAnswers<K>, P, NoTape, NoWatch>(
+    serve_holding(
         alloc,
         held,
         gateway,
         ports,
-        source,
-        sink,
-        &mut NoTape,
-        &mut NoWatch,
+        &mut line,
+        &mut Observers::none(),
     )
 }
 
-// Serves, records on a tape what the gateway takes, shows each record to a watch, and holds packets if `held`
-// does.
+// Serves a line of which nothing was read and to which nothing was written, and holds packets if `held` does.
 #[inline(always)]
-fn serve_holding<R: Records + Drop, A: Answers + Drop, P: Ports, T: Tape, W: Watch>(
+fn serve_holding<L: Line, P: Ports, T: Tape, W: Watch>(
     alloc: Global,
     held: HeldPackets,
     gateway: &mut Gateway,
     ports: &mut P,
-    source: &mut R::Source,
-    sink: &mut A::Sink,
-    tape: &mut T,
-    watch: &mut W,
+    line: &mut L,
+    observers: &mut Observers<T, W>,
 ) -> Result<Totals, RunFault>
-    requires { CanBegin (R.tells source.old) (A.tells sink.old) }
+    requires begins { CanBegin (L.input line.old).source (L.output line.old).sink }
+    requires new { IsNew (L.input line.old) (L.output line.old) (L.terms line.old) }
     ensures ok { IfOk result (ServesAll
-        (around_in held.holds (R.tells source.old) (A.tells sink.old) (P.tells ports.old) (T.tells tape.old))
-        (around_in held.holds (R.tells source.new) (A.tells sink.new) (P.tells ports.new) (T.tells tape.new))
+        (around_in held.holds (L.input line.old).source (L.output line.old).sink (P.tells ports.old)
+        (T.tells observers.old.tape))
+        (around_in held.holds (L.input line.new).source (L.output line.new).sink (P.tells ports.new)
+        (T.tells observers.new.tape))
         gateway.old gateway.new) }
     ensures fault { IfErr result (ServesUntil
-        (around_in held.holds (R.tells source.old) (A.tells sink.old) (P.tells ports.old) (T.tells tape.old))
-        (around_in held.holds (R.tells source.new) (A.tells sink.new) (P.tells ports.new) (T.tells tape.new))
+        (around_in held.holds (L.input line.old).source (L.output line.old).sink (P.tells ports.old)
+        (T.tells observers.old.tape))
+        (around_in held.holds (L.input line.new).source (L.output line.new).sink (P.tells ports.new)
+        (T.tells observers.new.tape))
         gateway.old gateway.new) }
-    ensures kept { R.stops ≡ true → OnOk result (T.is_lost tape.new ≡ false) }
+    ensures kept { L.stops ≡ true → OnOk result (T.is_lost observers.new.tape ≡ false) }
     ensures watched { ServesWatched
-        (around_in held.holds (R.tells source.old) (A.tells sink.old) (P.tells ports.old) (T.tells tape.old))
-        (around_in held.holds (R.tells source.new) (A.tells sink.new) (P.tells ports.new) (T.tells tape.new))
-        gateway.old gateway.new (InputsShown W.shows gateway.old watch.old watch.new)
-        (watch.new ≡ watch.old) result }
+        (around_in held.holds (L.input line.old).source (L.output line.old).sink (P.tells ports.old)
+        (T.tells observers.old.tape))
+        (around_in held.holds (L.input line.new).source (L.output line.new).sink (P.tells ports.new)
+        (T.tells observers.new.tape))
+        gateway.old gateway.new (InputsShown W.shows gateway.old observers.old.watch observers.new.watch)
+        (observers.new.watch ≡ observers.old.watch) result }
+    ensures terms { L.terms line.new ≡ L.terms line.old }
 {
-    let Ok(mut records) = R::begin(alloc) else {
-        return Err(RunFault::OutOfMemory);
-    };
     let Ok(room) = ReceiveRoom::new(alloc) else {
         return Err(RunFault::OutOfMemory);
     };
     let mut session = SessionBuffers::new(room, held);
-    let mut answers = A::at_once();
-    process_records(
-        &SERVED,
-        &mut records,
-        &mut answers,
-        &mut session,
-        gateway,
-        ports,
-        source,
-        sink,
-        tape,
-        watch,
-    )
+    process_records(&SERVED, &mut session, gateway, ports, line, observers)
 }
 
-/// Serves the records that come as [`serve`] does, and puts answers to whatever takes them. What the gateway
-/// takes is recorded on a tape, in the order in which it takes it, as records of every kind: each before what
-/// answers it is written. The packets of a record of the trunk are sent when all of it is on the tape, in
-/// their order, behind the receives of its octets. (A record of more than 2,048 octets has its packets sent
-/// as they are made.) A watch is shown each datagram when the gateway was given it, and each record when the
-/// gateway has acted on it. A record in which a write fails may not be shown. A tape that ends changes
-/// nothing of the session; if it is lost, the session ends before the next read, where its records can be
-/// ended.
+/// Serves the records of a line as [`serve`] does. What the gateway takes is recorded on the tape, in the order
+/// in which it takes it, as records of every kind: each before what answers it is written. The packets of a
+/// record of the trunk are sent when all of it is on the tape, in their order, behind the receives of its
+/// octets. (A record of more than 2,048 octets has its packets sent as they are made.) The watch is shown each
+/// datagram when the gateway was given it, and each record when the gateway has acted on it. A record in which a
+/// write fails may not be shown. A tape that ends changes nothing of the session; if it is lost, the session
+/// ends before the next read, where its records can be ended.
 ///
 /// # Errors
 ///
 /// Those of [`serve`], and [`RunFault::Read`] for a tape that is lost.
-pub fn serve_logged<R: Records + Drop, A: Answers + Drop, P: Ports, T: Tape, W: Watch>(
+pub fn serve_logged<L: Line, P: Ports, T: Tape, W: Watch>(
     alloc: Global,
     gateway: &mut Gateway,
     ports: &mut P,
-    source: &mut R::Source,
-    sink: &mut A::Sink,
-    tape: &mut T,
-    watch: &mut W,
+    line: &mut L,
+    observers: &mut Observers<T, W>,
 ) -> Result<Totals, RunFault>
-    requires { CanBegin (R.tells source.old) (A.tells sink.old) }
+    requires begins { CanBegin (L.input line.old).source (L.output line.old).sink }
+    requires new { IsNew (L.input line.old) (L.output line.old) (L.terms line.old) }
     ensures ok { IfOk result (ServesAll
-        (around_log (R.tells source.old) (A.tells sink.old) (P.tells ports.old) (T.tells tape.old))
-        (around_log (R.tells source.new) (A.tells sink.new) (P.tells ports.new) (T.tells tape.new))
+        (around_log (L.input line.old).source (L.output line.old).sink (P.tells ports.old)
+        (T.tells observers.old.tape))
+        (around_log (L.input line.new).source (L.output line.new).sink (P.tells ports.new)
+        (T.tells observers.new.tape))
         gateway.old gateway.new) }
     ensures fault { IfErr result (ServesUntil
-        (around_log (R.tells source.old) (A.tells sink.old) (P.tells ports.old) (T.tells tape.old))
-        (around_log (R.tells source.new) (A.tells sink.new) (P.tells ports.new) (T.tells tape.new))
+        (around_log (L.input line.old).source (L.output line.old).sink (P.tells ports.old)
+        (T.tells observers.old.tape))
+        (around_log (L.input line.new).source (L.output line.new).sink (P.tells ports.new)
+        (T.tells observers.new.tape))
         gateway.old gateway.new) }
-    ensures kept { R.stops ≡ true → OnOk result (T.is_lost tape.new ≡ false) }
+    ensures kept { L.stops ≡ true → OnOk result (T.is_lost observers.new.tape ≡ false) }
     ensures watched { ServesWatched
-        (around_log (R.tells source.old) (A.tells sink.old) (P.tells ports.old) (T.tells tape.old))
-        (around_log (R.tells source.new) (A.tells sink.new) (P.tells ports.new) (T.tells tape.new))
-        gateway.old gateway.new (InputsShown W.shows gateway.old watch.old watch.new)
-        (watch.new ≡ watch.old) result }
+        (around_log (L.input line.old).source (L.output line.old).sink (P.tells ports.old)
+        (T.tells observers.old.tape))
+        (around_log (L.input line.new).source (L.output line.new).sink (P.tells ports.new)
+        (T.tells observers.new.tape))
+        gateway.old gateway.new (InputsShown W.shows gateway.old observers.old.watch observers.new.watch)
+        (observers.new.watch ≡ observers.old.watch) result }
 {
     let Ok(held) = HeldPackets::new(alloc) else {
         return Err(RunFault::OutOfMemory);
     };
-    serve_holding::<R, A, P, T, W>(alloc, held, gateway, ports, source, sink, tape, watch)
+    serve_holding(alloc, held, gateway, ports, line, observers)
 }

@@ -1,4 +1,4 @@
-//! In which order events are recorded, and which are collected for one write (`Tape`).
+//! What a session records its events on (`Tape`), and how they are collected for one write.
 ghost use Rattle.std.specs.Prelude.{◌≡◌, ◌+◌, ◌^◌, ◌<◌, ◌≤◌, ◌∷◌, ◌++◌, [], length, map, true, false, None};
 ghost use Rattle.std.specs.Prelude.{Bool};
 ghost use Rattle.gw_circuit.specs.Items.{Datagram};
@@ -14,7 +14,7 @@ use crate::packet_ports::PacketPorts;
 use crate::spelling::append;
 use arrayvec::ArrayVec;
 use g704_cas::CircuitNo;
-use gw_records::{Answers, DATAGRAM, FRONT_LEN, RecordHead, TRUNK};
+use gw_records::{DATAGRAM, FRONT_LEN, Line, RecordHead, TRUNK};
 use gw_switch::Gateway;
 
 // The longest datagram that a record can hold.
@@ -56,14 +56,14 @@ pub trait Tape {
 
     /// Learns the gateway, which stands behind all that was put, and is shown what packets and answers go to.
     /// It is called before each record.
-    fn keep<O: PacketPorts<A>, A: Answers>(&mut self, gateway: &Gateway, ports: &O, sink: &A::Sink)
+    fn keep<O: PacketPorts<L>, L: Line>(&mut self, gateway: &Gateway, ports: &O, line: &L)
         ensures { Learns (tells self.old) (tells self.new)
-            (keeps_at (tells self.old) gateway.now (gone_to (O.tells ports.now) (A.tells sink.now)) ∷ []) };
+            (keeps_at (tells self.old) gateway.now (gone_to (O.tells ports.now) (L.output line.now).sink) ∷ []) };
 
     /// Learns that what was put is answered next, and is shown what packets and answers go to.
-    fn before_answer<O: PacketPorts<A>, A: Answers>(&mut self, ports: &O, sink: &A::Sink)
+    fn before_answer<O: PacketPorts<L>, L: Line>(&mut self, ports: &O, line: &L)
         ensures { Learns (tells self.old) (tells self.new)
-            (answers_at (tells self.old) (gone_to (O.tells ports.now) (A.tells sink.now)) ∷ []) };
+            (answers_at (tells self.old) (gone_to (O.tells ports.now) (L.output line.now).sink) ∷ []) };
 }
 
 /// A tape that takes nothing.
@@ -87,15 +87,10 @@ impl Tape for NoTape {
     }
 
     #[inline(always)]
-    fn keep<O: PacketPorts<A>, A: Answers>(
-        &mut self,
-        _gateway: &Gateway,
-        _ports: &O,
-        _sink: &A::Sink,
-    ) {}
+    fn keep<O: PacketPorts<L>, L: Line>(&mut self, _gateway: &Gateway, _ports: &O, _line: &L) {}
 
     #[inline(always)]
-    fn before_answer<O: PacketPorts<A>, A: Answers>(&mut self, _ports: &O, _sink: &A::Sink) {}
+    fn before_answer<O: PacketPorts<L>, L: Line>(&mut self, _ports: &O, _line: &L) {}
 }
 
 /// A tape, or none.
@@ -129,20 +124,15 @@ impl<T: Tape> Tape for Option<T> {
         }
     }
 
-    fn keep<O: PacketPorts<A>, A: Answers>(
-        &mut self,
-        gateway: &Gateway,
-        ports: &O,
-        sink: &A::Sink,
-    ) {
+    fn keep<O: PacketPorts<L>, L: Line>(&mut self, gateway: &Gateway, ports: &O, line: &L) {
         if let Some(tape) = self {
-            tape.keep::<O, A>(gateway, ports, sink);
+            tape.keep::<O, L>(gateway, ports, line);
         }
     }
 
-    fn before_answer<O: PacketPorts<A>, A: Answers>(&mut self, ports: &O, sink: &A::Sink) {
+    fn before_answer<O: PacketPorts<L>, L: Line>(&mut self, ports: &O, line: &L) {
         if let Some(tape) = self {
-            tape.before_answer::<O, A>(ports, sink);
+            tape.before_answer::<O, L>(ports, line);
         }
     }
 }

@@ -1,5 +1,5 @@
 -- What a reader has given grows by what each read gives.
-use Rattle.std.proofs.Common.{◌≡◌, ◌++◌, ℕ, List, Option, Some, None, Result, Ok, Err, Bool, refl, take, drop}
+use Rattle.std.proofs.Common.{◌≡◌, ◌++◌, ℕ, List, Option, Some, None, Result, Bool, refl, take, drop}
 use Rattle.std.proofs.Common.{ap, append_assoc, take-append-drop}
 use Rattle.std.specs.declared.io.ErrorKind.{ErrorKind}
 use Rattle.std.specs.Io.KnownBytes.{Consumes, Keeps}

@@ -138,23 +138,28 @@ between-is (RecordPosition.Low t high) e = cc
 between-is (RecordPosition.Body t more) e = cc
 
 -- Whole answers that were taken, and octets that are taken behind them.
-pub passes-on : (cut cut' : Bool) (taken xs went went' told told' : List ℕ) → HasPassed cut taken went told
+pub passes-on : (cut cut' : Bool) (taken xs went went' : List ℕ) → HasPassed cut taken went
     → cut ≡ false → (cut' ≡ false → place_behind RecordPosition.Kind xs ≡ RecordPosition.Kind)
-    → went' ≡ went ++ passed RecordPosition.Kind xs → told' ≡ told ++ to_clients RecordPosition.Kind xs
-    → HasPassed cut' (taken ++ xs) went' told'
-passes-on cut cut' taken xs went went' told told' has whole then more answers =
+    → went' ≡ went ++ passed RecordPosition.Kind xs → HasPassed cut' (taken ++ xs) went'
+passes-on cut cut' taken xs went went' has whole then more =
     let at : place_behind RecordPosition.Kind taken ≡ RecordPosition.Kind = between-is _ (has.whole whole) in
     record {
       whole = λ e. rw (place_append, at, then e) refl;
       went_are = more ∙ rw (has.went_are, passed-append, at) refl;
-      told_are = answers ∙ rw (has.told_are, answered-append, at) refl;
     }
 
+-- .. and what of them goes to clients.
+pub tells-on : (cut : Bool) (taken xs went told : List ℕ) → HasPassed cut taken went → cut ≡ false
+    → told ≡ to_clients RecordPosition.Kind taken
+    → told ++ to_clients RecordPosition.Kind xs ≡ to_clients RecordPosition.Kind (taken ++ xs)
+tells-on cut taken xs went told has whole so =
+    let at : place_behind RecordPosition.Kind taken ≡ RecordPosition.Kind = between-is _ (has.whole whole) in
+    rw (so, answered-append, at) refl
+
 -- Before any record.
-pub none-passed : (taken went told : List ℕ) → taken ≡ [] → went ≡ [] → told ≡ [] → HasPassed false taken went told
-unfolding place_behind passed to_clients
-none-passed taken went told t w a =
-    rw (t, w, a) (record { whole = λ e. refl; went_are = refl; told_are = refl })
+pub none-passed : (taken went : List ℕ) → taken ≡ [] → went ≡ [] → HasPassed false taken went
+unfolding place_behind passed
+none-passed taken went t w = rw (t, w) (record { whole = λ e. refl; went_are = refl })
 
 -- Octets that went, and more of those behind them.
 pub went-more : (went before now octets : List ℕ) (done n : ℕ) → before ≡ went ++ take done octets

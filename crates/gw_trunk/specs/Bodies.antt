@@ -1,6 +1,7 @@
 -- What of the records that answer goes to the trunk, and what to clients (module `sink`).
 use Rattle.std.specs.Prelude.{◌≡◌, ◌==◌, ◌+◌, ◌*◌, if◌then◌else◌, ◌++◌, ℕ, zero, suc, Bool, true, false, not}
 use Rattle.std.specs.Prelude.{List, [], ◌∷◌, Some}
+use Rattle.gw_records.specs.Records.{code_record}
 use Rattle.gw_records.specs.Streams.{SinkState}
 
 -- Where in a record the next octet stands. A place behind the kind says whether the body goes to the trunk,
@@ -67,13 +68,15 @@ abbrev pub is_between : RecordPosition → Bool
 is_between RecordPosition.Kind = true
 is_between _ = false
 
--- Answers were taken, all whole unless one was cut. The bodies of the T records among them went to the trunk,
--- and the others to clients.
-pub record HasPassed (cut : Bool) (taken went told : List ℕ) : Type 0 where
+-- Answers were taken, all whole unless one was cut, and the bodies of the T records among them went to the trunk.
+pub record HasPassed (cut : Bool) (taken went : List ℕ) : Type 0 where
   pub whole : cut ≡ false → is_between (place_behind RecordPosition.Kind taken) ≡ true
   pub went_are : went ≡ bodies taken
-  pub told_are : told ≡ others taken
 
 -- what a sink tells that failed so often, and took these octets
 abbrev pub told_by : ℕ → List ℕ → SinkState
 told_by failed taken = record { failures = failed; taken = Some taken }
+
+-- octets are an R record
+abbrev pub IsCodeRecord : List ℕ → Type 0
+IsCodeRecord octets = (circuit : ℕ) × (kind : ℕ) × (code : ℕ) × (octets ≡ code_record circuit kind code)

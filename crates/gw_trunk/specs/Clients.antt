@@ -1,7 +1,7 @@
 -- The clients of a trunk: what they give and what they get (modules `client` and `clients`).
 use Rattle.std.specs.Prelude.{◌≡◌, ◌≢◌, ◌⊎◌, ◌==◌, ◌||◌, ◌&&◌, ◌+◌, ◌-◌, ◌<◌, ◌≤◌, ◌^◌, ◌%◌, ◌++◌, ⊤}
 use Rattle.std.specs.Prelude.{if◌then◌else◌, ℕ, Bool, true, false, not, List, [], length, take}
-use Rattle.std.specs.Prelude.{slice_index_or, Option, Some, None, MatchOption, Result, Ok, Err}
+use Rattle.std.specs.Prelude.{slice_index_or, Option, Some, None, MatchOption, Result}
 use Rattle.std.specs.declared.io.ErrorKind.{ErrorKind}
 use Rattle.std.specs.List.{list_any}
 use Rattle.mio.specs.declared.event.event.Event.{Event}
@@ -13,7 +13,7 @@ use Rattle.gw_trunk.specs.declared.client.ClientPoll.TheVariants.{Command, Nothi
 use Rattle.gw_trunk.specs.declared.client.Client.{Client}
 use Rattle.gw_trunk.specs.declared.clients.Clients.{Clients}
 use Rattle.gw_trunk.specs.declared.logged_reader.LoggedReader.{LoggedReader}
-use Rattle.gw_trunk.specs.Device.{GaveBehind, passed_count, is_broken_pipe}
+use Rattle.gw_trunk.specs.Device.{passed_count, is_broken_pipe}
 use Rattle.gw_trunk.specs.Pieces.{AsksRecord, client_kinds}
 use Rattle.gw_trunk.specs.System.{SystemWrote}
 use Rattle.gw_records.specs.declared.records.RecordHead.{RecordHead}
@@ -138,23 +138,6 @@ at places k = slice_index_or places k None
 abbrev pub OnlyAt : ℕ → List (Option Client) → List (Option Client) → Type 0
 OnlyAt place places places' = (k : ℕ) → k ≢ place → at places' k ≡ at places k
 
--- what a read gave as an answer goes to the client at a place; if it found nothing, nobody gets anything
-abbrev pub GetsRead : Result ℕ ErrorKind → List ℕ → Option Client → Option Client → Type 0
-GetsRead (Ok n) room place place' =
-    (n ≡ 0 → place' ≡ place) × (0 < n → Gets place place' (take n room))
-GetsRead (Err kind) room place place' = place' ≡ place
-
--- The answer to the last record was read into a room of 64 octets, and what came goes to the client whose
--- record it was, if it is still there. The clients at all other places are as they were.
-pub record HasAnswered (gave : Result ℕ ErrorKind → List ℕ → Type 0) (places places' : List (Option Client))
-    (place : ℕ) : Type 0 where
-  pub read : Result ℕ ErrorKind
-  pub room : List ℕ
-  pub long : length room ≡ 64
-  pub was_read : gave read room
-  pub gets : GetsRead read room (at places place) (at places' place)
-  pub others : OnlyAt place places places'
-
 -- the place that is asked at a turn, from a first one on
 abbrev pub place_at : ℕ → ℕ → ℕ
 place_at first turn = (first % 8 + turn) % 8
@@ -263,19 +246,22 @@ Places stream clients clients' = (AreAllKnown clients.places × (clients' ≡ cl
     ⊎ ((place : ℕ) × MakesRoom clients.places place × (HasNew stream place clients clients'
     ⊎ (clients' ≡ record clients { poller = clients'.poller })))
 
--- The answer to the last record of a client is given to it, if one is to come.
-abbrev pub GivesAnswer : Clients → Clients → Type 0
-GivesAnswer clients clients' = MatchOption clients.asker (clients' ≡ clients) (λ place.
-    (clients' ≡ record clients { answers = clients'.answers; places = clients'.places; asker = None })
-    × HasAnswered (GaveBehind clients.answers.log.octets clients'.answers.log.octets)
-    clients.places clients'.places place)
+-- An answer is given to the client whose record was the last one, if it is still there and has none yet. The
+-- clients at all other places are as they were.
+abbrev pub GivesAnswer : Clients → Clients → List ℕ → Type 0
+GivesAnswer clients clients' answer = MatchOption clients.asker (clients' ≡ clients) (λ place.
+    (clients' ≡ record clients { places = clients'.places; asker = None })
+    × (place < 8 → Gets (at clients.places place) (at clients'.places place) answer)
+    × OnlyAt place clients.places clients'.places)
 
 -- A trunk with clients begins: its octets are those of this reader, neither it nor a client gave any yet, and
 -- it goes on.
-pub record BeginsTrunk {R : Type 0} {m : _} (reader : R) (logged : LoggedReader R m) (asked : List ℕ)
-    (ended : Bool) : Type 0 where
+pub record BeginsTrunk {R : Type 0} {m : _} (reader : R) (logged : LoggedReader R m)
+    (asked told : List ℕ) (ended : Bool)
+    : Type 0 where
   pub reader_is : logged.reader ≡ reader
   pub start_is : logged.start.value ≡ reader
   pub came : logged.log.octets ≡ []
   pub unasked : asked ≡ []
+  pub untold : told ≡ []
   pub goes_on : ended ≡ false

@@ -1,5 +1,5 @@
 -- What reads and writes of a device do (module `device`).
-use Rattle.std.specs.Prelude.{◌≡◌, ◌⊎◌, ◌≤◌, ◌<◌, ◌==◌, ◌^◌, ◌++◌, ⊤, ℕ, Bool, true, false, List, [], take}
+use Rattle.std.specs.Prelude.{◌≡◌, ◌⊎◌, ◌≤◌, ◌<◌, ◌==◌, ◌^◌, ⊤, ℕ, Bool, true, false, List, [], take}
 use Rattle.std.specs.Prelude.{Option, Some, None, Result, Ok, Err, nat_lt, pos}
 use Rattle.std.specs.IoError.{error_kind, raw_os_error}
 use Rattle.std.specs.declared.io.Error.{Error}
@@ -68,10 +68,6 @@ FailsOrStands has_failed waits device = has_failed device ⊎ (2 ^ 63 ≤ waits 
 -- a write was given all of these octets
 abbrev pub WasGivenAll : {O : Type 0} → (O → List ℕ → Type 0) → List ℕ → Type 0
 WasGivenAll {O} was_given octets = (written : O) × was_given written octets
-
--- what a read gave, the first octets of a room, is behind what others gave
-abbrev pub GaveBehind : List ℕ → List ℕ → Result ℕ ErrorKind → List ℕ → Type 0
-GaveBehind before after read room = after ≡ before ++ octets_read read room
 
 -- how many octets passed in a read or a write
 abbrev pub passed_count : Result ℕ ErrorKind → ℕ

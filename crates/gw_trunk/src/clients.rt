@@ -1,22 +1,21 @@
 //! Clients that give commands: accepted, asked in turn, disconnected; whether the trunk can be read now.
 
-ghost use Rattle.std.specs.Prelude.{◌≡◌, ◌==◌, ◌||◌, ◌&&◌, ◌+◌, ◌<◌, ◌≤◌, ℕ, true, false, length, IfOk};
-ghost use Rattle.std.specs.Prelude.{IfSome, IfNone};
+ghost use Rattle.std.specs.Prelude.{◌≡◌, ◌==◌, ◌||◌, ◌&&◌, ◌+◌, ◌<◌, ◌≤◌, ℕ, true, false, length, IfSome};
+ghost use Rattle.std.specs.Prelude.{IfNone};
 ghost use Rattle.std.specs.List.{list_all};
 ghost use Rattle.mio.specs.Event.{event_token, is_read_closed};
 ghost use Rattle.mio.specs.Events.{items};
-ghost use Rattle.gw_trunk.specs.Clients.{Answers, AreAllKnown, AreWoken, Asks, Gets, GetsRead, GivesAnswer};
+ghost use Rattle.gw_trunk.specs.Clients.{Answers, AreAllKnown, AreWoken, Asks, Gets, GivesAnswer};
 ghost use Rattle.gw_trunk.specs.Clients.{IsWokenAt, Looks, MakesRoom, OnlyAt, Places, at, comes, is_quiet};
 ghost use Rattle.gw_trunk.specs.Clients.{rank};
 
 use crate::client::{Client, ClientPoll};
 use crate::door::Door;
-use crate::logged_reader::LoggedReader;
 use crate::readiness::Poller;
 use mio::event::Event;
 use mio::net::{UnixListener, UnixStream};
 use mio::{Events, Interest};
-use std::io::{self, ErrorKind};
+use std::io;
 use std::net::Net;
 use std::time::Duration;
 
@@ -32,9 +31,6 @@ const A_MOMENT_MS: u64 = 1;
 // How long it is waited before the system is asked anew what came before: of a pipe that was closed behind
 // its last octets it reports both at once.
 const A_WHILE_MS: u64 = 20;
-
-// The longest answer to a record of a client.
-const ANSWER_LEN: usize = 64;
 
 const TRUNK: usize = 0;
 
@@ -65,8 +61,6 @@ pub struct Clients {
     // Whether the end is asked for.
     pub ends: bool,
     pub places: [Option<Client>; 8],
-    // What the answers come from.
-    answers: LoggedReader<UnixStream>,
     // The place of the client whose record was the last one, if its answer is to come.
     pub asker: Option<usize>,
     // The place that is asked first.
@@ -111,22 +105,14 @@ fn answer_one(place: &mut Option<Client>, answer: &[u8])
     }
 }
 
-// Gives what a read of an answer came to, the first octets of `room`, to the client at the place of this
-// number, and to none else.
-fn answer_at(
-    places: &mut [Option<Client>; 8],
-    place: usize,
-    read: Result<usize, ErrorKind>,
-    room: &[u8],
-)
-    requires { IfOk read (λ n. n ≤ length room.now) }
-    ensures gets { GetsRead read room.now (at places.old place) (at places.new place) }
+// Gives the client at the place of this number an answer, and none else.
+fn answer_at(places: &mut [Option<Client>; 8], place: usize, answer: &[u8])
+    requires { place < 8 }
+    ensures gets { Gets (at places.old place) (at places.new place) answer.now }
     ensures others { OnlyAt place places.old places.new }
+    ensures count { length places.new ≡ length places.old }
 {
-    match read {
-        Ok(n) if n > 0 && place < MOST_CLIENTS => answer_one(&mut places[place], &room[..n]),
-        _ => {}
-    }
+    answer_one(&mut places[place], answer);
 }
 
 // Wakes the client at a place, who may have left.
@@ -217,14 +203,12 @@ fn place_for_one(places: &[Option<Client>; 8]) -> Option<usize>
 
 impl Clients {
     /// Clients who connect to `door`, with none yet, and what a descriptor waits with them, of which a read
-    /// may give a block. The answers to them come from `answers`, which never waits. The error is the
-    /// system's.
+    /// may give a block. The error is the system's.
     pub fn open(
         rt: &(impl Net + AllocGlobal),
         descriptor: i32,
         gives_blocks: bool,
         mut door: UnixListener,
-        answers: UnixStream,
     ) -> io::Result<Clients> {
         let mut poller = Poller::open(rt, 16)?;
         let is_waited_for = poller
@@ -243,7 +227,6 @@ impl Clients {
             knocks: true,
             ends: false,
             places: [None, None, None, None, None, None, None, None],
-            answers: LoggedReader::new(answers),
             asker: None,
             next: 0,
             came: 0,
@@ -344,16 +327,16 @@ impl Clients {
     }
 
     /// Gives the answer to the last record of a client to this client, and to no other.
-    pub fn give_answer(&mut self)
-        ensures { GivesAnswer self.old self.new }
+    pub fn give_answer(&mut self, answer: &[u8])
+        ensures { GivesAnswer self.old self.new answer.now }
     {
         let Some(place) = self.asker else {
             return;
         };
         self.asker = None;
-        let mut room = [0u8; ANSWER_LEN];
-        let read = self.answers.read(&mut room);
-        answer_at(&mut self.places, place, read, &room);
+        if place < MOST_CLIENTS {
+            answer_at(&mut self.places, place, answer);
+        }
     }
 
     // Gives a connection that was accepted a place, if there is one and the system agrees to report it.

@@ -46,6 +46,9 @@ pub trait TrunkInput {
     /// The octets of the C and K records of clients that were taken.
     ghost asked: { Self → List ℕ };
 
+    /// The octets of the answers that clients were given.
+    ghost told: { Self → List ℕ };
+
     /// Holds of a device if a read reported that it has ended.
     ghost has_ended: { Self → Type 0 } = { λ _. ⊤ };
 
@@ -73,6 +76,7 @@ pub trait TrunkInput {
         ensures bound { IfOk result (λ t. IsTaken t (length room.new)) }
         ensures came { came self.new ≡ came self.old ++ octets_taken result room.new }
         ensures asked { asked self.new ≡ asked self.old }
+        ensures told { told self.new ≡ told self.old }
         ensures turn { IfOk result (λ t. WasRead t → is_turn self.new ≡ true) }
         ensures empty { IfOk result (λ t. t ≡ DeviceRead.NoneNow → is_empty self.new ≡ true) }
         ensures ended { IfOk result (λ t. t ≡ DeviceRead.Ended → has_ended self.new) }
@@ -86,15 +90,24 @@ pub trait TrunkInput {
         ensures came { came self.new ≡ came self.old }
         ensures asked { IfSome result (AsksRecord (asked self.old) (asked self.new)) }
         ensures none { IfNone result (asked self.new ≡ asked self.old) }
+        ensures told { told self.new ≡ told self.old }
         ensures quiet { IfNone result (clients_are_quiet self.new ≡ true) }
         ensures idle { IfNone result (is_empty self.old ≡ true → is_idle self.new ≡ true) }
         ensures waits { waits self.new ≡ waits self.old };
+
+    /// Gives the answer to the last record of a client to this client. It never waits.
+    fn answer(&mut self, octets: &[u8])
+        ensures told { told self.new ≡ told self.old ++ octets.now }
+        ensures came { came self.new ≡ came self.old }
+        ensures asked { asked self.new ≡ asked self.old }
+        ensures turn { is_turn self.new ≡ is_turn self.old };
 
     /// Waits until octets or a client may have come, when there is nothing.
     fn wait(&mut self)
         requires idle { is_idle self.old ≡ true }
         ensures came { came self.new ≡ came self.old }
         ensures asked { asked self.new ≡ asked self.old }
+        ensures told { told self.new ≡ told self.old }
         ensures waits { waits self.new ≡ waits self.old + 1 };
 }
 
@@ -153,6 +166,8 @@ pub trait TrunkOutput {
 pub struct FromDevice<R: Read> {
     reader: LoggedReader<R>,
     waiting: Waiting,
+    // What answers clients, of whom there are none.
+    told: Log,
     // An octet for each wait.
     waits: Log,
 }
@@ -175,26 +190,6 @@ pub struct ToDevice<W: Write> {
         → W.contents writer ≡ Some (before ++ log.octets) },
 }
 
-/// Takes the answers where there are no clients.
-#[derive(Drop)]
-pub struct NoClients {
-    log: Log,
-    // An octet for each wait.
-    waits: Log,
-}
-
-impl NoClients {
-    /// A receiver of answers that has taken none.
-    pub fn new() -> NoClients
-        ensures { result.log.octets ≡ [] }
-    {
-        NoClients {
-            log: Log::new(),
-            waits: Log::new(),
-        }
-    }
-}
-
 impl<R: Read + Drop> FromDevice<R> {
     /// A trunk's input from a reader with this descriptor, without clients. The error is the system's.
     pub fn open(
@@ -205,10 +200,12 @@ impl<R: Read + Drop> FromDevice<R> {
         ensures reader { IfOk result (λ d. d.reader.reader ≡ reader) }
         ensures start { IfOk result (λ d. d.reader.start.value ≡ reader) }
         ensures log { IfOk result (λ d. d.reader.log.octets ≡ []) }
+        ensures told { IfOk result (λ d. d.told.octets ≡ []) }
     {
         Ok(FromDevice {
             waiting: Waiting::open(rt, descriptor, Interest::READABLE)?,
             reader: LoggedReader::new(reader),
+            told: Log::new(),
             waits: Log::new(),
         })
     }
@@ -244,6 +241,8 @@ impl<R: Read> TrunkInput for FromDevice<R> {
 
     ghost asked = { λ _. [] };
 
+    ghost told = { λ d. d.told.octets };
+
     ghost has_ended = { λ d. IsAtEnd (R.remaining d.reader.reader) };
 
     ghost waits = { λ d. length d.waits.octets };
@@ -262,6 +261,10 @@ impl<R: Read> TrunkInput for FromDevice<R> {
 
     fn command(&mut self) -> Option<RecordHead> {
         None
+    }
+
+    fn answer(&mut self, octets: &[u8]) {
+        self.told.append(octets, octets.len());
     }
 
     fn wait(&mut self) {
@@ -306,24 +309,5 @@ impl<W: Write> TrunkOutput for ToDevice<W> {
         self.is_slow = true;
         self.slow_waits.append(&[0], 1);
         false
-    }
-}
-
-impl TrunkOutput for NoClients {
-    ghost went = { λ d. d.log.octets };
-
-    ghost waits = { λ d. length d.waits.octets };
-
-    fn write(&mut self, octets: &[u8]) -> Result<Option<usize>, DeviceFault> {
-        self.log.append(octets, octets.len());
-        Ok(Some(octets.len()))
-    }
-
-    fn wait(&mut self) {
-        self.waits.append(&[0], 1);
-    }
-
-    fn wait_a_while(&mut self) -> bool {
-        true
     }
 }

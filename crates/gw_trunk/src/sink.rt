@@ -1,29 +1,25 @@
-//! Which answers of a session go to the trunk, and which to clients (`TrunkRecordSink`).
+//! What of the answers of a session goes to the trunk (`TrunkRecordSink`).
 
 ghost use Rattle.std.specs.Prelude.{◌≡◌, ◌≤◌, ◌<◌, ◌^◌, ◌++◌, ◌⊎◌, [], length, take, drop};
 ghost use Rattle.std.specs.Prelude.{ℕ, IfOk, Err, OnErr, OnOk, true, false};
-ghost use Rattle.gw_records.specs.Records.{code_record, trunk_record};
+ghost use Rattle.gw_records.specs.Records.{trunk_record};
 ghost use Rattle.gw_records.specs.Streams.{CanCount, Writes};
 ghost use Rattle.gw_trunk.specs.Device.{FailsOrStands, WasGivenAll};
-ghost use Rattle.gw_trunk.specs.Bodies.{HasPassed, told_by};
+ghost use Rattle.gw_trunk.specs.Bodies.{HasPassed, IsCodeRecord, others, told_by};
 
 use crate::device::TrunkOutput;
-use g704_cas::CircuitNo;
-use gw_records::{Answers, Log, RunFault, SinkFault, code_record};
-use std::marker::PhantomData;
+use gw_records::{Log, RunFault, SinkFault};
 
-/// Takes the answers of a session. The octets that answer T records go to the trunk, and nothing else does;
-/// codes go to clients, as R records. If one takes none now, it waits until it does. Behind an answer that
-/// was cut nothing goes.
+/// Takes the answers of a session, and passes the octets that answer T records to the trunk. Behind an answer
+/// that was cut nothing goes.
 #[derive(Drop)]
-pub struct TrunkRecordSink<O: TrunkOutput, A: TrunkOutput> {
+pub struct TrunkRecordSink<O: TrunkOutput> {
     outgoing: O,
-    answers: A,
     failed: u64,
     // Whether an answer was cut.
     cut: bool,
     log: Log,
-    ghost passed: { HasPassed cut log.octets (O.went outgoing) (A.went answers) },
+    ghost passed: { HasPassed cut log.octets (O.went outgoing) },
 }
 
 // Puts octets out, and returns how many went: the first ones. It waits if none can go now.
@@ -74,20 +70,17 @@ fn note_cut(cut: &mut bool, failed: &mut u64) -> Result<(), RunFault>
     Err(RunFault::Write)
 }
 
-impl<O: TrunkOutput, A: TrunkOutput> TrunkRecordSink<O, A> {
+impl<O: TrunkOutput> TrunkRecordSink<O> {
     /// What takes the answers from now on, with no failure yet.
-    pub fn new(outgoing: O, answers: A) -> TrunkRecordSink<O, A>
+    pub fn new(outgoing: O) -> TrunkRecordSink<O>
         requires went { O.went outgoing ≡ [] }
-        requires told { A.went answers ≡ [] }
         ensures outgoing { result.outgoing ≡ outgoing }
-        ensures answers { result.answers ≡ answers }
         ensures failed { result.failed ≡ 0 }
         ensures cut { result.cut ≡ false }
         ensures log { result.log.octets ≡ [] }
     {
         TrunkRecordSink {
             outgoing,
-            answers,
             failed: 0,
             cut: false,
             log: Log::new(),
@@ -104,6 +97,7 @@ impl<O: TrunkOutput, A: TrunkOutput> TrunkRecordSink<O, A> {
             ⊎ FailsOrStands O.has_failed O.waits self.new.outgoing ⊎ ((n : ℕ) × (n < length octets.now)
             × O.was_given self.new.outgoing (drop n octets.now))) }
         ensures given { OnOk result (0 < length octets.now → WasGivenAll O.was_given octets.now) }
+        ensures told { others self.new.log.octets ≡ others self.old.log.octets }
     {
         if self.cut {
             return note_cut(&mut self.cut, &mut self.failed);
@@ -116,80 +110,30 @@ impl<O: TrunkOutput, A: TrunkOutput> TrunkRecordSink<O, A> {
         Ok(())
     }
 
-    /// Has clients take 0 or the number of a refusal, which answers a record of this kind.
-    pub fn put_code(&mut self, circuit: CircuitNo, kind: u8, code: u8) -> Result<(), RunFault>
+    /// Takes an R record, none of which goes to the trunk.
+    pub fn put_code(&mut self, octets: &[u8; 6]) -> Result<(), RunFault>
+        requires code { IsCodeRecord octets.now }
         requires writes { CanCount self.old.failed }
         ensures writes { Writes (told_by self.old.failed self.old.log.octets)
-            (told_by self.new.failed self.new.log.octets) (code_record circuit kind code) result }
-        ensures fails { OnErr result ((self.old.cut ≡ true)
-            ⊎ FailsOrStands A.has_failed A.waits self.new.answers ⊎ ((n : ℕ) × (n < 6)
-            × A.was_given self.new.answers (drop n (code_record circuit kind code)))) }
+            (told_by self.new.failed self.new.log.octets) octets.now result }
+        ensures log { OnOk result (self.new.log.octets ≡ self.old.log.octets ++ octets.now) }
+        ensures whole { OnOk result (self.old.cut ≡ false) }
+        ensures cut { OnErr result (self.new.log ≡ self.old.log) }
     {
         if self.cut {
             return note_cut(&mut self.cut, &mut self.failed);
         }
-        let octets = code_record(circuit, kind, code);
-        let n = put_all(&mut self.answers, &octets);
-        self.log.append(&octets, n);
-        if n < octets.len() {
-            return note_cut(&mut self.cut, &mut self.failed);
-        }
+        self.log.append(octets, 6);
         Ok(())
     }
 }
 
-impl<O: TrunkOutput, A: TrunkOutput + Drop> TrunkRecordSink<O, A> {
+impl<O: TrunkOutput> TrunkRecordSink<O> {
     /// The device that the trunk's octets go to.
     pub fn into_outgoing(self) -> O
         ensures { result ≡ self.outgoing }
     {
         let TrunkRecordSink { outgoing, .. } = self;
         outgoing
-    }
-}
-
-/// The answers to a trunk and its clients: each goes at once, and those to the trunk are not spelled.
-#[derive(Drop)]
-pub struct TrunkAnswers<O: TrunkOutput, A: TrunkOutput> {
-    outgoing: PhantomData<O>,
-    answers: PhantomData<A>,
-}
-
-impl<O: TrunkOutput, A: TrunkOutput> Answers for TrunkAnswers<O, A> {
-    type Sink = TrunkRecordSink<O, A>;
-
-    ghost tells = { λ s. told_by s.failed s.log.octets };
-
-    ghost waiting = { λ _. [] };
-
-    ghost late = { λ _. 0 };
-
-    fn at_once() -> TrunkAnswers<O, A> {
-        TrunkAnswers {
-            outgoing: PhantomData,
-            answers: PhantomData,
-        }
-    }
-
-    fn put_octets(
-        &mut self,
-        octets: &[u8],
-        sink: &mut TrunkRecordSink<O, A>,
-    ) -> Result<(), RunFault> {
-        sink.put_octets(octets)
-    }
-
-    fn put_code(
-        &mut self,
-        circuit: CircuitNo,
-        kind: u8,
-        code: u8,
-        sink: &mut TrunkRecordSink<O, A>,
-    ) -> Result<(), RunFault> {
-        sink.put_code(circuit, kind, code)
-    }
-
-    fn write_out(&mut self, _sink: &mut TrunkRecordSink<O, A>) -> Result<(), RunFault> {
-        Ok(())
     }
 }

@@ -1,4 +1,4 @@
-//! Whether octets of the trunk or a client's command are the next record of a session (`TrunkRecords`).
+//! Whether octets of the trunk or a client's command are the next record of a session (`TrunkRecordSource`).
 
 ghost use Rattle.std.specs.Prelude.{◌≡◌, ◌<◌, ◌≤◌, ◌^◌, ◌-◌, ◌+◌, ◌++◌, [], length, IfOk, IfErr};
 ghost use Rattle.std.specs.Prelude.{IfSome, IfNone};
@@ -13,12 +13,7 @@ ghost use Rattle.gw_trunk.specs.Pieces.{held_in, holding, is_accepted, most_octe
 ghost use Rattle.gw_trunk.specs.Pieces.{source_told};
 
 use crate::device::{DeviceRead, TrunkInput};
-use gw_records::{
-    AcceptedKinds, FRONT_LEN, FirstRecord, Log, MAX_READS, RecordHead, Records, RecordsEnd,
-    RunFault, SourceFault,
-};
-use std::alloc::{AllocError, Global};
-use std::marker::PhantomData;
+use gw_records::{FRONT_LEN, FirstRecord, Log, RecordHead, SourceFault};
 
 /// The octets of a trunk as T records, and C and K records of clients between them. Each read gives one whole
 /// record: the octets that have come, or a record of a client. Between two records of clients the trunk was
@@ -35,8 +30,8 @@ pub struct TrunkRecordSource<I: TrunkInput> {
     ghost in_turn: { turn ≡ true → I.is_turn incoming ≡ true },
 }
 
-// The octets of a trunk that a record has at most. A device that gives blocks needs room for a whole one.
-const ROOM_LEN: usize = 2_048;
+/// The octets of a trunk that a record has at most. A device that gives blocks needs room for a whole one.
+pub const ROOM_LEN: usize = 2_048;
 
 // The record of a client, with its length.
 fn client_record(head: RecordHead) -> FirstRecord
@@ -71,6 +66,7 @@ fn command_in_turn<I: TrunkInput>(incoming: &mut I, turn: &mut bool) -> Option<F
     ensures asked { IfSome result (AsksFirst (I.asked incoming.old) (I.asked incoming.new)) }
     ensures none { IfNone result (I.asked incoming.new ≡ I.asked incoming.old) }
     ensures turn { turn.new ≡ false }
+    ensures told { I.told incoming.new ≡ I.told incoming.old }
 {
     if !*turn {
         return None;
@@ -97,6 +93,7 @@ fn next_record<I: TrunkInput>(
     ensures turn { turn.new ≡ true → I.is_turn incoming.new ≡ true }
     ensures ended { IfOk result (λ got. IfNone got (I.has_ended incoming.new)) }
     ensures fails { OnErr result (LacksRecord (I.has_failed incoming.new) (2 ^ 63 ≤ I.waits incoming.new)) }
+    ensures told { I.told incoming.new ≡ I.told incoming.old }
 {
     if let Some(first) = command_in_turn(incoming, turn) {
         return Ok(Some(first));
@@ -149,6 +146,7 @@ impl<I: TrunkInput> TrunkRecordSource<I> {
         ensures ended { IfOk result (λ got. IfNone got (I.has_ended self.new.incoming)) }
         ensures fails { OnErr result (LacksRecord (I.has_failed self.new.incoming)
             (2 ^ 63 ≤ I.waits self.new.incoming)) }
+        ensures told { I.told self.new.incoming ≡ I.told self.old.incoming }
     {
         match next_record(&mut self.incoming, &mut self.turn, room) {
             Ok(got) => {
@@ -163,8 +161,8 @@ impl<I: TrunkInput> TrunkRecordSource<I> {
         }
     }
 
-    // Counts a failure, with which a session ends.
-    fn fail(&mut self)
+    /// Counts a failure, with which a session ends.
+    pub fn fail(&mut self)
         ensures failed { CanCount self.old.failed → self.old.failed < self.new.failed }
         ensures incoming { self.new.incoming ≡ self.old.incoming }
         ensures reads { self.new.reads ≡ self.old.reads }
@@ -173,135 +171,21 @@ impl<I: TrunkInput> TrunkRecordSource<I> {
         self.failed = self.failed.saturating_add(1);
     }
 
+    /// Gives the answer to the last record of a client to this client.
+    pub fn answer(&mut self, octets: &[u8])
+        ensures told { I.told self.new.incoming ≡ I.told self.old.incoming ++ octets.now }
+        ensures failed { self.new.failed ≡ self.old.failed }
+        ensures reads { self.new.reads ≡ self.old.reads }
+        ensures log { self.new.log ≡ self.old.log }
+    {
+        self.incoming.answer(octets);
+    }
+
     /// What the trunk's octets and the clients' commands come from.
     pub fn into_incoming(self) -> I
         ensures { result ≡ self.incoming }
     {
         let TrunkRecordSource { incoming, .. } = self;
         incoming
-    }
-}
-
-/// The records of a trunk and its clients: one at a time, never spelled.
-#[derive(Drop)]
-pub struct TrunkRecords<I: TrunkInput> {
-    // The octets of the record, if they are the trunk's.
-    room: [u8; ROOM_LEN],
-    first: Option<FirstRecord>,
-    reads_left: u64,
-    of: PhantomData<I>,
-    ghost long: { length room ≡ most_octets },
-    ghost stands: { (f : FirstRecord) → first ≡ Some f → stands_in_room f ≡ true },
-}
-
-// Whether records of this head are accepted.
-fn is_accepted(kinds: &AcceptedKinds, head: RecordHead) -> bool
-    ensures { result ≡ is_accepted kinds.now head }
-{
-    match head {
-        RecordHead::Trunk => kinds.trunk,
-        RecordHead::Datagram(_) => kinds.datagrams,
-        RecordHead::Command(..) => kinds.commands,
-        RecordHead::Codec(..) => kinds.codecs,
-    }
-}
-
-impl<I: TrunkInput> Records for TrunkRecords<I> {
-    type Source = TrunkRecordSource<I>;
-
-    ghost tells = { λ s. source_told s.failed s.reads s.log.octets };
-
-    ghost holds = { λ r. holding r.first r.room r.reads_left };
-
-    ghost stops = { true };
-
-    fn begin(_alloc: Global) -> Result<TrunkRecords<I>, AllocError> {
-        Ok(TrunkRecords {
-            room: [0; ROOM_LEN],
-            first: None,
-            reads_left: MAX_READS,
-            of: PhantomData,
-        })
-    }
-
-    #[inline(always)]
-    fn first(&self, kinds: &AcceptedKinds) -> Result<FirstRecord, RecordsEnd> {
-        match self.first {
-            Some(first) if is_accepted(kinds, first.head) => Ok(first),
-            Some(_) => Err(RecordsEnd::BadKind),
-            None => Err(RecordsEnd::End),
-        }
-    }
-
-    // (The head of a client's record says all of it.)
-    fn body(&self, first: &FirstRecord) -> &[u8] {
-        match first.head {
-            RecordHead::Command(..) | RecordHead::Codec(..) => &[],
-            _ => &self.room[..first.len - FRONT_LEN],
-        }
-    }
-
-    fn pass(&mut self, _first: &FirstRecord) {
-        self.first = None;
-    }
-
-    fn read_on(
-        &mut self,
-        _kinds: &AcceptedKinds,
-        _ending: RecordsEnd,
-        source: &mut TrunkRecordSource<I>,
-    ) -> Result<bool, RunFault>
-        requires ends { end_of _kinds.now (held_in self.old.first self.old.room) ≡ Some _ending }
-        requires reads { CanCount source.old.failed }
-        ensures ok { IfOk result (λ came. ReadsOn
-            (source_told source.old.failed source.old.reads source.old.log.octets)
-            (source_told source.new.failed source.new.reads source.new.log.octets)
-            (holding self.old.first self.old.room self.old.reads_left)
-            (holding self.new.first self.new.room self.new.reads_left) _ending came) }
-        ensures fault { IfErr result (λ e. (e ≡ RunFault.Read) × FailsToRead
-            (source_told source.old.failed source.old.reads source.old.log.octets)
-            (source_told source.new.failed source.new.reads source.new.log.octets)
-            (holding self.old.first self.old.room self.old.reads_left)
-            (holding self.new.first self.new.room self.new.reads_left) _ending) }
-        ensures ended { IfOk result (λ came. came ≡ false → self.old.first ≡ None
-            → I.has_ended source.new.incoming) }
-        ensures fails { OnErr result ((self.old.reads_left ≡ 0)
-            ⊎ LacksRecord (I.has_failed source.new.incoming) (2 ^ 63 ≤ I.waits source.new.incoming)) }
-    {
-        if self.first.is_some() {
-            return Ok(false);
-        }
-        if self.reads_left == 0 {
-            return Err(RunFault::Read);
-        }
-        self.reads_left -= 1;
-        match source.next(&mut self.room) {
-            Ok(got) => {
-                self.first = got;
-                Ok(got.is_some())
-            }
-            Err(_) => Err(RunFault::Read),
-        }
-    }
-
-    fn stop(
-        &mut self,
-        ending: RecordsEnd,
-        source: &mut TrunkRecordSource<I>,
-    ) -> Result<(), RunFault>
-        requires reads { CanCount source.old.failed }
-        ensures ok { OnOk result ((source.new ≡ source.old) × (self.new ≡ self.old)) }
-        ensures fault { IfErr result (λ e. (e ≡ RunFault.Read) × FailsToRead
-            (source_told source.old.failed source.old.reads source.old.log.octets)
-            (source_told source.new.failed source.new.reads source.new.log.octets)
-            (holding self.old.first self.old.room self.old.reads_left)
-            (holding self.new.first self.new.room self.new.reads_left) ending) }
-        ensures stops { ending ≡ RecordsEnd.End → is_ok result ≡ false }
-    {
-        if ending != RecordsEnd::End {
-            return Ok(());
-        }
-        source.fail();
-        Err(RunFault::Read)
     }
 }

@@ -1,29 +1,28 @@
 //! A trunk with clients: when it is read, when a client is asked, and what ends it (`WithClients`).
 
-ghost use Rattle.std.specs.Prelude.{◌≡◌, ◌||◌, ◌&&◌, List, ℕ, [], length, true, false, Some, IfOk};
+ghost use Rattle.std.specs.Prelude.{◌≡◌, ◌||◌, ◌&&◌, ◌++◌, List, ℕ, [], length, true, false, Some, IfOk};
 ghost use Rattle.std.specs.Io.KnownBytes.{IsAtEnd};
 ghost use Rattle.std.specs.List.{list_all};
-ghost use Rattle.gw_trunk.specs.Clients.{BeginsTrunk, is_quiet};
+ghost use Rattle.gw_trunk.specs.Clients.{BeginsTrunk, GivesAnswer, is_quiet};
 
 use crate::client::ClientPoll;
 use crate::clients::Clients;
-use crate::device::{DeviceFault, DeviceRead, ToDevice, TrunkInput};
+use crate::device::{DeviceFault, DeviceRead, TrunkInput};
 use crate::device_calls::is_for_later;
 use crate::door::open_door;
 use crate::logged_reader::LoggedReader;
 use gw_records::{Log, RecordHead};
-use mio::net::{UnixListener, UnixStream};
+use mio::net::UnixListener;
 use std::io::{self, Read};
 use std::net::Net;
-use std::os::fd::AsRawFd;
 use std::rt::Files;
 
 /// A reader of std over a descriptor, and the clients of a Unix socket. The reader is read only if octets
 /// have come, so one that waits for them keeps no client from being asked.
 ///
-/// A client gives C and K records, and the answer to a record goes to the client who gave it: it comes from
-/// the other end of `answers`. A client that goes, sends something else, or does not take an answer at once
-/// loses its connection, and nothing else happens. Once the end is asked for nothing comes any more.
+/// A client gives C and K records, and the answer to a record goes to the client who gave it. A client that
+/// goes, sends something else, or does not take an answer at once loses its connection, and nothing else
+/// happens. Once the end is asked for nothing comes any more.
 #[derive(Drop)]
 pub struct WithClients<R: Read> {
     reader: LoggedReader<R>,
@@ -37,6 +36,8 @@ pub struct WithClients<R: Read> {
     ended: bool,
     end_asked: bool,
     asked: Log,
+    // The answers that clients were given.
+    told: Log,
     // An octet for each wait.
     waits: Log,
     ghost ends: { (rest : List ℕ) → ended ≡ true → end_asked ≡ false
@@ -45,19 +46,17 @@ pub struct WithClients<R: Read> {
 
 impl<R: Read + Drop> WithClients<R> {
     /// What comes from the reader, whose descriptor this is and of which a read may give a block, and from
-    /// those who connect to `door`. The answers to them come from `answers`, which never waits. The error is
-    /// the system's.
+    /// those who connect to `door`. The error is the system's.
     pub fn open(
         rt: &(impl Net + AllocGlobal),
         reader: R,
         descriptor: i32,
         gives_blocks: bool,
         door: UnixListener,
-        answers: UnixStream,
     ) -> io::Result<WithClients<R>>
-        ensures begins { IfOk result (λ d. BeginsTrunk reader d.reader d.asked.octets d.ended) }
+        ensures begins { IfOk result (λ d. BeginsTrunk reader d.reader d.asked.octets d.told.octets d.ended) }
     {
-        let clients = Clients::open(rt, descriptor, gives_blocks, door, answers)?;
+        let clients = Clients::open(rt, descriptor, gives_blocks, door)?;
         Ok(WithClients {
             reader: LoggedReader::new(reader),
             clients,
@@ -66,6 +65,7 @@ impl<R: Read + Drop> WithClients<R> {
             ended: false,
             end_asked: false,
             asked: Log::new(),
+            told: Log::new(),
             waits: Log::new(),
         })
     }
@@ -75,14 +75,15 @@ impl<R: Read + Drop> WithClients<R> {
     pub fn end_by(&mut self, descriptor: i32) -> io::Result<()>
         ensures reader { self.new.reader ≡ self.old.reader }
         ensures asked { self.new.asked ≡ self.old.asked }
+        ensures told { self.new.told ≡ self.old.told }
         ensures ended { self.new.ended ≡ self.old.ended }
     {
         self.clients.watch_end(descriptor)
     }
 }
 
-/// What comes from the reader, whose descriptor this is, and from the clients of the Unix socket at a path;
-/// and what takes the answers to them. `gives_blocks` says whether a read gives a block, though more may have
+/// What comes from the reader, whose descriptor this is, and from the clients of the Unix socket at a path.
+/// `gives_blocks` says whether a read gives a block, though more may have
 /// come, as of a card; of a pipe or a socket it gives all, up to its room. An old socket there at which
 /// nobody listens is replaced. The error is the system's.
 pub fn open_clients<R: Read + Drop>(
@@ -91,22 +92,19 @@ pub fn open_clients<R: Read + Drop>(
     descriptor: i32,
     gives_blocks: bool,
     path: &str,
-) -> io::Result<(WithClients<R>, ToDevice<UnixStream>)>
-    ensures begins { IfOk result (λ both. BeginsTrunk reader both.0.reader both.0.asked.octets both.0.ended) }
-    ensures answers { IfOk result (λ both. both.1.log.octets ≡ []) }
+) -> io::Result<WithClients<R>>
+    ensures begins { IfOk result (λ d. BeginsTrunk reader d.reader d.asked.octets d.told.octets d.ended) }
 {
     let door = open_door(rt, path)?;
-    let (near, far) = UnixStream::pair(rt)?;
-    let incoming = WithClients::open(rt, reader, descriptor, gives_blocks, door, near)?;
-    let end = far.as_raw_fd();
-    let answers = ToDevice::open(rt, far, end)?;
-    Ok((incoming, answers))
+    WithClients::open(rt, reader, descriptor, gives_blocks, door)
 }
 
 impl<R: Read> TrunkInput for WithClients<R> {
     ghost came = { λ d. d.reader.log.octets };
 
     ghost asked = { λ d. d.asked.octets };
+
+    ghost told = { λ d. d.told.octets };
 
     ghost has_ended = { λ d. (d.ended ≡ true)
         × (d.end_asked ≡ false → IsAtEnd (R.remaining d.reader.reader)) };
@@ -122,7 +120,6 @@ impl<R: Read> TrunkInput for WithClients<R> {
     ghost is_idle = { λ d. d.ended || d.empty && list_all is_quiet d.clients.places };
 
     fn read(&mut self, room: &mut [u8]) -> Result<DeviceRead, DeviceFault> {
-        self.clients.give_answer();
         if self.ended {
             return Ok(DeviceRead::Ended);
         }
@@ -153,7 +150,6 @@ impl<R: Read> TrunkInput for WithClients<R> {
     }
 
     fn command(&mut self) -> Option<RecordHead> {
-        self.clients.give_answer();
         if self.ended {
             return None;
         }
@@ -171,6 +167,17 @@ impl<R: Read> TrunkInput for WithClients<R> {
             }
             ClientPoll::Nothing | ClientPoll::Gone => None,
         }
+    }
+
+    fn answer(&mut self, octets: &[u8])
+        ensures gives { GivesAnswer self.old.clients self.new.clients octets.now }
+        ensures told { self.new.told.octets ≡ self.old.told.octets ++ octets.now }
+        ensures reader { self.new.reader ≡ self.old.reader }
+        ensures asked { self.new.asked ≡ self.old.asked }
+        ensures turn { self.new.turn ≡ self.old.turn }
+    {
+        self.clients.give_answer(octets);
+        self.told.append(octets, octets.len());
     }
 
     fn wait(&mut self) {

@@ -7,9 +7,9 @@ use Rattle.trunk_filters.specs.Trunk.{AreFresh}
 
 -- nothing came of the trunk, no client asked, and none was answered
 abbrev pub IsFreshEnd : Incoming → Type 0
-IsFreshEnd (Alone incoming) = incoming.reader.log.octets ≡ []
-IsFreshEnd (Clients incoming answers) = (incoming.reader.log.octets ≡ []) × (incoming.asked.octets ≡ [])
-    × (answers.log.octets ≡ [])
+IsFreshEnd (Alone incoming) = (incoming.reader.log.octets ≡ []) × (incoming.told.octets ≡ [])
+IsFreshEnd (Clients incoming) = (incoming.reader.log.octets ≡ []) × (incoming.asked.octets ≡ [])
+    × (incoming.told.octets ≡ [])
 
 -- .. and nothing went to it, nor through its filters
 pub record IsFreshTrunk (trunk : OpenTrunk) : Type 0 where

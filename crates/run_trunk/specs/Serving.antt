@@ -9,12 +9,14 @@ use Rattle.gw_records.specs.declared.outcome.Totals.{Totals}
 use Rattle.gw_records.specs.declared.outcome.RunFault.{RunFault}
 use Rattle.gw_records.specs.declared.outcome.RunFault.TheVariants.{Read, Write, OutOfMemory}
 use Rattle.gw_records.specs.Octets.{octet_of_command, octet_of_codec}
+use Rattle.gw_records.specs.Line.{Input, Output, Terms}
 use Rattle.gw_records.specs.Records.{Record}
 use Rattle.gw_records.specs.Streams.{SourceState, SinkState}
 use Rattle.gw_session.specs.Answers.{written_out, answers, events}
 use Rattle.gw_session.specs.Serve.{SessionStreams, ServesAll, ServesUntil, octets_for}
 use Rattle.gw_session.specs.ServeLaws.{without_datagrams}
 use Rattle.gw_session.specs.Tape.{TapeState, Recorded}
+use Rattle.gw_session.specs.World.{IsNew}
 use Rattle.gw_trunk.specs.Pieces.{Woven, from_clients}
 
 -- nothing was read of a source, and nothing written to a sink
@@ -23,6 +25,12 @@ IsUnread source = (source.failures ≡ 0) × (source.reads ≡ 0) × (source.giv
 
 abbrev pub IsUntaken : SinkState → Type 0
 IsUntaken sink = (sink.failures ≡ 0) × (sink.taken ≡ Some [])
+
+-- .. of a line, which holds nothing, and at which nothing waits
+pub record IsUntouched (input : Input) (output : Output) (terms : Terms) : Type 0 where
+  pub unread : IsUnread input.source
+  pub untaken : IsUntaken output.sink
+  pub new : IsNew input output terms
 
 -- events but for octets and datagrams
 abbrev pub commands_in : List Event → List Event

@@ -8,13 +8,10 @@ use crate::opening::{Incoming, OpenTrunk};
 use crate::serving::serve_trunk;
 use e1_g711::Law;
 use gw_filter::Checked;
-use gw_report::{tell_check, tell_discarded};
-use gw_session::{Ports, RunFault, Tape, Totals, Watch};
+use gw_report::{print_checked, print_discarded};
+use gw_session::{Observers, Ports, RunFault, Tape, Totals, Watch};
 use gw_switch::Gateway;
-use gw_trunk::{
-    DeviceFault, MultiframeDropper, NoClients, ToDevice, TrunkInput, TrunkOutput, TrunkRecordSink,
-    TrunkRecordSource,
-};
+use gw_trunk::{DeviceFault, MultiframeDropper, ToDevice, TrunkInput, TrunkLine};
 use std::alloc::Global;
 use std::rt::{Stderr, Stdout};
 use trunk_filters::{
@@ -35,11 +32,11 @@ pub struct TrunkEnd {
 
 impl TrunkEnd {
     /// Prints the counts.
-    pub fn tell(&self, rt: &impl Eprint) {
+    pub fn print(&self, rt: &impl Eprint) {
         if let Some(checked) = &self.checked {
-            tell_check(rt, true, checked);
+            print_checked(rt, true, checked);
         }
-        tell_discarded(rt, self.discarded);
+        print_discarded(rt, self.discarded);
     }
 }
 
@@ -56,11 +53,9 @@ fn ended_behind(
 
 // The ends of a trunk.
 #[derive(Drop)]
-struct TrunkEnds<I: TrunkInput, A: TrunkOutput> {
+struct TrunkEnds<I: TrunkInput> {
     incoming: I,
     outgoing: ToDevice<Stdout>,
-    // Where answers to clients go.
-    answers: A,
     filters: TrunkFilters,
     errors: Stderr,
     alloc: Global,
@@ -68,24 +63,22 @@ struct TrunkEnds<I: TrunkInput, A: TrunkOutput> {
 
 // Serves a trunk between its ends by a gateway, through the filters that are there.
 #[inline(never)]
-fn serve_ends<I: TrunkInput + Drop, A: TrunkOutput + Drop, P: Ports, T: Tape, W: Watch>(
+fn serve_ends<I: TrunkInput + Drop, P: Ports, T: Tape, W: Watch>(
     law: Law,
     gateway: &mut Gateway,
-    ends: TrunkEnds<I, A>,
+    ends: TrunkEnds<I>,
     ports: &mut P,
-    tape: &mut T,
-    watch: &mut W,
+    observers: &mut Observers<T, W>,
 ) -> TrunkEnd
     requires came { I.came ends.incoming ≡ [] }
     requires asked { I.asked ends.incoming ≡ [] }
     requires went { ends.outgoing.log.octets ≡ [] }
-    requires told { A.went ends.answers ≡ [] }
+    requires told { I.told ends.incoming ≡ [] }
     requires fresh { AreFresh ends.filters }
 {
     let TrunkEnds {
         incoming,
         outgoing,
-        answers,
         filters,
         errors,
         alloc,
@@ -100,13 +93,13 @@ fn serve_ends<I: TrunkInput + Drop, A: TrunkOutput + Drop, P: Ports, T: Tape, W:
     let whole = slot_input(errors, incoming, slots, law, gateway);
     let incoming = filtered_input(whole, aligner, checker_from(errors, live, outward));
     let framed = framed_output(outgoing, slots, reports, gateway);
-    let mut source = TrunkRecordSource::new(incoming);
-    let mut sink = TrunkRecordSink::new(MultiframeDropper::new(framed, errors), answers);
-    let ended = serve_trunk(alloc, gateway, ports, &mut source, &mut sink, tape, watch);
-    let (discarded, output) = finish_output(sink.into_outgoing());
+    let mut line = TrunkLine::new(incoming, MultiframeDropper::new(framed, errors));
+    let ended = serve_trunk(alloc, gateway, ports, &mut line, observers);
+    let (incoming, outgoing) = line.into_ends();
+    let (discarded, output) = finish_output(outgoing);
     TrunkEnd {
         ended: ended_behind(ended, &output),
-        checked: finish_input(source.into_incoming()),
+        checked: finish_input(incoming),
         discarded,
     }
 }
@@ -118,8 +111,7 @@ pub fn serve<P: Ports, T: Tape, W: Watch>(
     gateway: &mut Gateway,
     trunk: OpenTrunk,
     ports: &mut P,
-    tape: &mut T,
-    watch: &mut W,
+    observers: &mut Observers<T, W>,
 ) -> TrunkEnd
     requires { IsFreshTrunk trunk }
 {
@@ -135,23 +127,21 @@ pub fn serve<P: Ports, T: Tape, W: Watch>(
             let ends = TrunkEnds {
                 incoming,
                 outgoing,
-                answers: NoClients::new(),
                 filters,
                 errors,
                 alloc,
             };
-            serve_ends(law, gateway, ends, ports, tape, watch)
+            serve_ends(law, gateway, ends, ports, observers)
         }
-        Incoming::Clients(incoming, answers) => {
+        Incoming::Clients(incoming) => {
             let ends = TrunkEnds {
                 incoming,
                 outgoing,
-                answers,
                 filters,
                 errors,
                 alloc,
             };
-            serve_ends(law, gateway, ends, ports, tape, watch)
+            serve_ends(law, gateway, ends, ports, observers)
         }
     }
 }

@@ -6,7 +6,6 @@ ghost use Rattle.run_trunk.specs.Opening.{IsFreshEnd, IsFreshTrunk};
 use gw_command::{ControlOptions, TrunkOptions};
 use gw_report::{ProgramFault, reason_at};
 use gw_trunk::{FromDevice, ToDevice, WithClients, open_clients};
-use mio::net::UnixStream;
 use std::alloc::Global;
 use std::fs;
 use std::net::Net;
@@ -23,7 +22,7 @@ const STDOUT: i32 = 1;
 #[derive(Drop)]
 pub(crate) enum Incoming {
     Alone(FromDevice<Stdin>),
-    Clients(WithClients<Stdin>, ToDevice<UnixStream>),
+    Clients(WithClients<Stdin>),
 }
 
 /// A trunk that is open, of which nothing was read and to which nothing was written.
@@ -66,14 +65,8 @@ fn open_with_clients(
 ) -> Result<Incoming, ProgramFault>
     ensures { IfOk result IsFreshEnd }
 {
-    let (mut incoming, answers) = match open_clients(
-        rt,
-        input,
-        STDIN,
-        gives_blocks(rt),
-        control.path,
-    ) {
-        Ok(both) => both,
+    let mut incoming = match open_clients(rt, input, STDIN, gives_blocks(rt), control.path) {
+        Ok(incoming) => incoming,
         Err(error) => {
             let reason = reason_at(rt.alloc(), control.path, &error)?;
             return Err(ProgramFault::Control(reason));
@@ -86,7 +79,7 @@ fn open_with_clients(
             return Err(ProgramFault::Trunk(reason));
         }
     }
-    Ok(Incoming::Clients(incoming, answers))
+    Ok(Incoming::Clients(incoming))
 }
 
 // Opens standard input, and the socket of clients if one is named.

@@ -3,14 +3,11 @@
 ghost use Rattle.std.specs.Prelude.{◌≡◌, OnOk, false};
 ghost use Rattle.gw_session.specs.Serve.{around_log};
 ghost use Rattle.gw_session.specs.Watch.{InputsShown, ServesWatched};
-ghost use Rattle.run_trunk.specs.Serving.{CarriesTrunk, IsUnread, IsUntaken, traffic};
+ghost use Rattle.run_trunk.specs.Serving.{CarriesTrunk, IsUntouched, traffic};
 
-use gw_records::{Answers, Records};
-use gw_session::{Ports, RunFault, Tape, Totals, Watch, serve_logged};
+use gw_session::{Line, Observers, Ports, RunFault, Tape, Totals, Watch, serve_logged};
 use gw_switch::Gateway;
-use gw_trunk::{
-    TrunkAnswers, TrunkInput, TrunkOutput, TrunkRecordSink, TrunkRecordSource, TrunkRecords,
-};
+use gw_trunk::{TrunkInput, TrunkLine, TrunkOutput};
 use std::alloc::Global;
 
 // Serves a trunk and its clients by a gateway until no octet comes any more: for each octet that comes the
@@ -25,41 +22,30 @@ use std::alloc::Global;
 // [`RunFault::Write`] where the other fails. [`RunFault::OutOfMemory`] where memory was refused: nothing
 // comes, is asked or goes.
 #[inline(never)]
-pub(crate) fn serve_trunk<
-    I: TrunkInput,
-    O: TrunkOutput,
-    A: TrunkOutput,
-    P: Ports,
-    T: Tape,
-    W: Watch,
->(
+pub(crate) fn serve_trunk<I: TrunkInput, O: TrunkOutput, P: Ports, T: Tape, W: Watch>(
     alloc: Global,
     gateway: &mut Gateway,
     ports: &mut P,
-    source: &mut TrunkRecordSource<I>,
-    sink: &mut TrunkRecordSink<O, A>,
-    tape: &mut T,
-    watch: &mut W,
+    line: &mut TrunkLine<I, O>,
+    observers: &mut Observers<T, W>,
 ) -> Result<Totals, RunFault>
-    requires source { IsUnread (⟦<TrunkRecords<I> as Records>⟧.tells source.old) }
-    requires sink { IsUntaken (⟦<TrunkAnswers<O, A> as Answers>⟧.tells sink.old) }
+    requires { IsUntouched (⟦<TrunkLine<I, O> as Line>⟧.input line.old)
+        (⟦<TrunkLine<I, O> as Line>⟧.output line.old) (⟦<TrunkLine<I, O> as Line>⟧.terms line.old) }
     ensures carries { CarriesTrunk
-        (around_log (⟦<TrunkRecords<I> as Records>⟧.tells source.old)
-        (⟦<TrunkAnswers<O, A> as Answers>⟧.tells sink.old) (P.tells ports.old) (T.tells tape.old))
-        (around_log (⟦<TrunkRecords<I> as Records>⟧.tells source.new)
-        (⟦<TrunkAnswers<O, A> as Answers>⟧.tells sink.new) (P.tells ports.new) (T.tells tape.new))
-        (traffic (I.came source.new.incoming) (I.asked source.new.incoming)
-        (O.went sink.new.outgoing) (A.went sink.new.answers)) gateway.old gateway.new result }
-    ensures kept { OnOk result (T.is_lost tape.new ≡ false) }
+        (around_log (⟦<TrunkLine<I, O> as Line>⟧.input line.old).source
+        (⟦<TrunkLine<I, O> as Line>⟧.output line.old).sink (P.tells ports.old) (T.tells observers.old.tape))
+        (around_log (⟦<TrunkLine<I, O> as Line>⟧.input line.new).source
+        (⟦<TrunkLine<I, O> as Line>⟧.output line.new).sink (P.tells ports.new) (T.tells observers.new.tape))
+        (traffic (I.came line.new.source.incoming) (I.asked line.new.source.incoming)
+        (O.went line.new.sink.outgoing) (I.told line.new.source.incoming)) gateway.old gateway.new result }
+    ensures kept { OnOk result (T.is_lost observers.new.tape ≡ false) }
     ensures watched { ServesWatched
-        (around_log (⟦<TrunkRecords<I> as Records>⟧.tells source.old)
-        (⟦<TrunkAnswers<O, A> as Answers>⟧.tells sink.old) (P.tells ports.old) (T.tells tape.old))
-        (around_log (⟦<TrunkRecords<I> as Records>⟧.tells source.new)
-        (⟦<TrunkAnswers<O, A> as Answers>⟧.tells sink.new) (P.tells ports.new) (T.tells tape.new))
-        gateway.old gateway.new (InputsShown W.shows gateway.old watch.old watch.new)
-        (watch.new ≡ watch.old) result }
+        (around_log (⟦<TrunkLine<I, O> as Line>⟧.input line.old).source
+        (⟦<TrunkLine<I, O> as Line>⟧.output line.old).sink (P.tells ports.old) (T.tells observers.old.tape))
+        (around_log (⟦<TrunkLine<I, O> as Line>⟧.input line.new).source
+        (⟦<TrunkLine<I, O> as Line>⟧.output line.new).sink (P.tells ports.new) (T.tells observers.new.tape))
+        gateway.old gateway.new (InputsShown W.shows gateway.old observers.old.watch observers.new.watch)
+        (observers.new.watch ≡ observers.old.watch) result }
 {
-    serve_logged::<TrunkRecords<I>, TrunkAnswers<O, A>, P, T, W>(
-        alloc, gateway, ports, source, sink, tape, watch,
-    )
+    serve_logged(alloc, gateway, ports, line, observers)
 }

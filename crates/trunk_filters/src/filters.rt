@@ -19,7 +19,7 @@ use gw_filter::{
     BufferFilter, Checked, CountsTeller, ReceiverCounts, ReportingChecker, ReportingSender,
 };
 use gw_records::NO_TOTALS;
-use gw_report::{ProgramFault, tell_live};
+use gw_report::{ProgramFault, print_live};
 use gw_switch::Gateway;
 use gw_trunk::{DeviceFault, MultiframeDropper, TrunkInput, TrunkOutput};
 use std::alloc::Global;
@@ -45,7 +45,7 @@ impl CountsTeller for PrintedCounts {
 
     fn tell(&mut self, counts: &ReceiverCounts) {
         if self.is_live {
-            tell_live(&self.errors, counts);
+            print_live(&self.errors, counts);
         }
     }
 }

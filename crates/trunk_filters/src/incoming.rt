@@ -48,6 +48,8 @@ impl<I: TrunkInput, F: BufferFilter> TrunkInput for FilteredInput<I, F> {
 
     ghost asked = { λ d. I.asked d.incoming };
 
+    ghost told = { λ d. I.told d.incoming };
+
     ghost has_ended = { λ d. I.has_ended d.incoming };
 
     ghost has_failed = { λ d. I.has_failed d.incoming };
@@ -77,6 +79,10 @@ impl<I: TrunkInput, F: BufferFilter> TrunkInput for FilteredInput<I, F> {
 
     fn command(&mut self) -> Option<RecordHead> {
         self.incoming.command()
+    }
+
+    fn answer(&mut self, octets: &[u8]) {
+        self.incoming.answer(octets);
     }
 
     fn wait(&mut self) {

@@ -151,6 +151,8 @@ impl<I: TrunkInput> TrunkInput for SlotInput<I> {
 
     ghost asked = { λ d. I.asked d.incoming };
 
+    ghost told = { λ d. I.told d.incoming };
+
     ghost has_ended = { λ d. I.has_ended d.incoming };
 
     ghost has_failed = { λ d. I.has_failed d.incoming };
@@ -194,6 +196,10 @@ impl<I: TrunkInput> TrunkInput for SlotInput<I> {
             return None;
         }
         self.incoming.command()
+    }
+
+    fn answer(&mut self, octets: &[u8]) {
+        self.incoming.answer(octets);
     }
 
     fn wait(&mut self) {

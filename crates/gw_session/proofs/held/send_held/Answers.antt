@@ -17,5 +17,6 @@ loop-i-preserved g c =
       sends = rw held (sends_more _ _ _ _ _ _ _ _ w.sends sent.0);
       passes = takes_on _ _ _ _ _ _ w.passes sent.1;
       no_failure = sent.2 ∙ w.no_failure;
-      late = c.send_packet.ensures.late ∙ w.late;
+      input = c.send_packet.ensures.input ∙ w.input;
+      terms = c.send_packet.ensures.terms ∙ w.terms;
     }

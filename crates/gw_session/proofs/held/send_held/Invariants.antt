@@ -5,8 +5,9 @@ abbrev pub invariant-loop-i : goal.invariant-loop-i
 invariant-loop-i g l = record {
   sends : GoToPorts (g.O.PacketPorts.tells l.initial.packet_ports) (g.O.PacketPorts.tells l.packet_ports)
       l.initial.totals l.totals (packets_held (take l.i l.held));
-  passes : TakesAllButWaiting (g.A.Answers.tells l.initial.sink).taken (g.A.Answers.tells l.sink).taken
-      (g.A.Answers.waiting l.answers) (g.A.Answers.waiting l.initial.answers);
-  no_failure : (g.A.Answers.tells l.sink).failures ≡ (g.A.Answers.tells l.initial.sink).failures;
-  late : g.A.Answers.late l.answers ≡ g.A.Answers.late l.initial.answers;
+  passes : TakesAllButWaiting (g.L.Line.output l.initial.line).sink.taken (g.L.Line.output l.line).sink.taken
+      (g.L.Line.output l.line).waiting (g.L.Line.output l.initial.line).waiting;
+  no_failure : (g.L.Line.output l.line).sink.failures ≡ (g.L.Line.output l.initial.line).sink.failures;
+  input : g.L.Line.input l.line ≡ g.L.Line.input l.initial.line;
+  terms : g.L.Line.terms l.line ≡ g.L.Line.terms l.initial.line;
 }

@@ -7,9 +7,10 @@ use Rattle.gw_session.proofs.serves.serve_holding.Goals as goal
 pub returns : goal.returns
 returns g c =
     let holds = ap (λ (h : HeldPackets). h.holds) c.new-session.ensures.held in
-    let shown = InputsShown g.W.Watch.shows c.args.gateway.now c.args.watch.now c.process_records.new.watch in
-    let ok = rw (c.at_once-answers.ensures.late, holds) at c.process_records.ensures.ok in
-    let fault = rw (c.at_once-answers.ensures.late, holds) at c.process_records.ensures.fault in
+    let shown = InputsShown g.W.Watch.shows c.args.gateway.now c.args.observers.now.watch
+    c.process_records.new.observers.watch in
+    let ok = rw (c.requires.new.at_once, holds) at c.process_records.ensures.ok in
+    let fault = rw (c.requires.new.at_once, holds) at c.process_records.ensures.fault in
     record {
       kept = c.process_records.ensures.kept;
       ok = all_as _ _ _ _ _ (λ t records p. serves records p.0) c.process_records.result ok;
@@ -22,6 +23,7 @@ returns g c =
           (until_as _ _ _ _ _
           (λ t records p. serves_watched (λ inputs. shown inputs []) records p.0 p.1) _ c.process_records.result
           (serves_watched_until shown) fault);
+      terms = c.process_records.ensures.terms;
     }
 
 pub process_records-requires-clause-silent : goal.process_records-requires-clause-silent

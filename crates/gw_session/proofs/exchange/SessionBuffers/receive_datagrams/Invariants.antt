@@ -9,10 +9,10 @@ invariant-receiving g l = record {
       (g.O.PacketPorts.tells l.initial.packet_ports) l.initial.gateway l.initial.self.totals)
       (state_with l.initial.self.held.holds (packets_held l.initial.self.held.packets.items)
       (g.O.PacketPorts.tells l.packet_ports) l.gateway l.self.totals) l.circuit came
-      × RecordsBehind (taping (g.T.Tape.tells l.initial.tape) l.initial.self.batch.items)
-      (taping (g.T.Tape.tells l.tape) l.self.batch.items) l.heard l.initial.self.recorded l.self.recorded
+      × RecordsBehind (taping (g.T.Tape.tells l.initial.observers.tape) l.initial.self.batch.items)
+      (taping (g.T.Tape.tells l.observers.tape) l.self.batch.items) l.heard l.initial.self.recorded l.self.recorded
       (coming (of_circuit (Some l.circuit) came))
-      × AreShown g.W.Watch.shows l.initial.gateway l.initial.watch l.watch (length l.heard)
+      × AreShown g.W.Watch.shows l.initial.gateway l.initial.observers.watch l.observers.watch (length l.heard)
       (coming (of_circuit (Some l.circuit) came));
   others : l.self ≡ record l.initial.self {
     totals = l.self.totals;

@@ -5,5 +5,5 @@ use Rattle.gw_trunk.proofs.sink.TrunkRecordSink.new.Goals as goal
 
 pub invariant_of-result : goal.invariant_of-result
 invariant_of-result g c = record {
-  passed = none-passed _ _ _ (ap (λ (l : Log). l.octets) c.new.ensures) c.requires.went c.requires.told;
+  passed = none-passed _ _ (ap (λ (l : Log). l.octets) c.new.ensures) c.requires.went;
 }
