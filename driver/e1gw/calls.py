@@ -71,7 +71,7 @@ class CallLog:
         self.life = ''
         self.changed: frozenset[int] = frozenset()      # circuits that were configured otherwise while nobody told
 
-    def counted_by(self, counts: DatagramCounts) -> None:
+    def set_counts(self, counts: DatagramCounts) -> None:
         """These are the counts from now on."""
         self._counts = counts
 
@@ -114,9 +114,9 @@ class CallLog:
             if line.state in IN_CALL and n not in self._calls:
                 self._begin(n, None)
                 self._calls[n].answered = self._clock() if line.state is State.ANSWERED else None
-        self.counts_on()
+        self.on_counts_known()
 
-    def counts_on(self) -> None:
+    def on_counts_known(self) -> None:
         """Counts of packets are known again, of circuits of which none were, or that may be new."""
         for n in self._lines:
             now = self._now(n)

@@ -1,6 +1,7 @@
 """What clears calls by itself: control clients that are gone (--on-loss), and a trunk out of service (--dark)."""
 from __future__ import annotations
 
+from contextlib import suppress
 from dataclasses import dataclass
 from math import inf
 from typing import Callable
@@ -24,11 +25,12 @@ def on_loss_of(words: list[str]) -> DisconnectPolicy:
     """`keep`, `clear SECONDS` or `block SECONDS`, and behind that `alive SECONDS`. ValueError where it is none."""
     if words == ['keep']:
         return DisconnectPolicy()
-    if len(words) in (2, 4) and words[0] in ('clear', 'block') and words[2:3] in ([], ['alive']):
-        seconds, alive = float(words[1]), float(words[3]) if words[3:] else None
-        if 0 <= seconds <= 86400 and (alive is None or 1 <= alive <= 86400):
-            return DisconnectPolicy(seconds, words[0] == 'block', alive)
-    raise ValueError('keep, or clear or block SECONDS (0 to 86400)')
+    with suppress(ValueError):
+        if len(words) in (2, 4) and words[0] in ('clear', 'block') and words[2:3] in ([], ['alive']):
+            seconds, alive = float(words[1]), float(words[3]) if words[3:] else None
+            if 0 <= seconds <= 86400 and (alive is None or 1 <= alive <= 86400):
+                return DisconnectPolicy(seconds, words[0] == 'block', alive)
+    raise ValueError(f'--on-loss {" ".join(words)} is not keep, or clear or block SECONDS (0 to 86400)')
 
 
 @dataclass

@@ -125,7 +125,7 @@ class DatagramCounts:
         for row in self.circuits.values():
             row.commit()
 
-    def go_on(self, known: DatagramCounts) -> None:
+    def resume(self, known: DatagramCounts) -> None:
         """What was told up to now is what is known of each circuit."""
         for n, row in self.circuits.items():
             stream, told = known.circuits[n].stream, row.told

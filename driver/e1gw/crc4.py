@@ -98,7 +98,7 @@ class Crc4:
         return [told for name, errors in self._errors.items() for told in errors.add(
             Crc4Change(name.replace('_', ' ')), more[name], more['submultiframes'])]
 
-    def follows(self) -> None:
+    def on_next_program(self) -> None:
         """Another program follows on this device, whose counts begin at 0."""
         self._last = {}
 

@@ -16,12 +16,12 @@ Others:
   wait N STATE                prints which circuits are not in this state, until all are, or --for SECONDS
   why N                       what e1gw-picture finds of a circuit in the last 30 s that were recorded
   calls                       those that --last, --circuit, --from and --to select, each with the id that e1gw-call
-                              takes, and sums
+                              takes; how many at once at most, and the erlang of each hour
   outages                     those between --from and --to
   report FILE                 a tar of version, status, options, journal and the last calls; --no-addresses hides hosts
   move NODE                   as root, has Pacemaker move the trunk
 
-A TIME is 14:03, yesterday, 'yesterday 14:03' or 2026-11-23T07:30, in local time.
+A TIME is 14:03, today, yesterday, 'yesterday 14:03' or 2026-11-23T07:30, in local time.
 
 Statuses: 0 all was done; 1 a trunk refused something, or does not answer; 2 the command line, or nobody listens at
 PATH; 3 circuits are not in the state.
@@ -41,11 +41,10 @@ from e1gw_common.answers import answer_in
 from e1gw_common.faults import Parser, checked, number, words_of_fault
 from e1gw_common.session import CIRCUITS, circuit_of
 from e1gw_common.session_clock import local_second
-from .ctl_all import PATIENCE, SOCKETS, answer_to, connected, overview, status_of, trunks_here
-from .ctl_calls import OutageForm, Wanted, calls_listed, outages_listed
-from .ctl_codec import save_codecs
-from .ctl_wait import STATES, AwaitedState, wait
+from .control_sockets import PATIENCE, SOCKETS, answer_to, connected, read_status, trunks_here
+from .trunk_files import TrunkFiles
 
+# (What takes a while to be read is imported where it is used.)
 ASKING = ('status', 'events', 'help', 'metrics', 'role')
 SEVERAL = ('seize', 'clear', 'answer', 'clear-back', 'block', 'unblock', 'codec')
 AT_ONCE = ('block', 'unblock')          # .. of which the trunk takes several at once
@@ -142,7 +141,8 @@ def codec_saved(path: str, numbers: str, codec: str, kind: str, patience: float)
     """Gives circuits a codec, also in the configuration; returns the status."""
     if status := run(path, ['codec', numbers, codec, kind], patience):
         return status
-    file = status_of(path, patience).files.config_file
+    from .ctl_codec import save_codecs
+    file = read_status(TrunkFiles, path, patience).config_file
     try:
         save_codecs(file, [int(each) for each in circuits_of(numbers)], codec, int(kind))
     except ValueError as fault:
@@ -164,11 +164,14 @@ def own_command(asked: argparse.Namespace, parser: argparse.ArgumentParser, comm
     first, end = getattr(asked, 'from'), asked.to
     match command:
         case ['calls']:
+            from .ctl_calls import Wanted, calls_listed
             return calls_listed(trunks, Wanted(asked.last, asked.circuit, first, end), bool(asked.csv), patience)
         case ['outages']:
+            from .ctl_calls import OutageForm, outages_listed
             form = OutageForm.PAGE if asked.page else OutageForm.CSV if asked.csv else OutageForm.TEXT
             return outages_listed(trunks, first, end, form, patience)
         case ['wait', *its]:
+            from .ctl_wait import STATES, AwaitedState, wait
             circuits, state = {*map(circuit_of, circuits_of(its[0] if its else ''))}, ' '.join(its[1:])
             if 0 in circuits or state not in STATES:
                 parser.error(f'wait: wants circuits, 1 to 30, and a state: {", ".join(STATES)}')
@@ -178,7 +181,7 @@ def own_command(asked: argparse.Namespace, parser: argparse.ArgumentParser, comm
         case ['why', *its]:
             if len(its) != 1 or not circuit_of(its[0]):
                 parser.error('why: wants a circuit, 1 to 30')
-            from .ctl_why import why        # (which takes a while to be read)
+            from .ctl_why import why
             return why(trunks, circuit_of(its[0]), patience)
         case ['report', *its] if not asked.all:
             if len(its) != 1:
@@ -208,7 +211,10 @@ def started(asked: argparse.Namespace, parser: argparse.ArgumentParser, patience
         return run_all(command, patience)
     if command and command[0] in [name for name, _ in trunks_here()]:
         parser.error(f'{command[0]} is a trunk: a command goes to one of them, and with --all to each')
-    return run(path_of(asked.path), command, patience) if asked.path else overview(patience)
+    if asked.path:
+        return run(path_of(asked.path), command, patience)
+    from .ctl_all import overview
+    return overview(patience)
 
 
 def next_words(parsed_args: argparse.Namespace, **_: object) -> list[str]:
@@ -227,6 +233,7 @@ def next_words(parsed_args: argparse.Namespace, **_: object) -> list[str]:
         case [word] if word in (*SEVERAL, 'wait', 'why'):
             return circuits
         case ['wait', _]:
+            from .ctl_wait import STATES
             return STATES
         case ['codec', _, _, _]:
             return ['save']

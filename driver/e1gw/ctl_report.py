@@ -17,9 +17,9 @@ from e1gw_common.call_lines import FIELDS, csv_line, read_calls
 from e1gw_common.faults import words_of_fault
 from . import VERSION
 from .addresses import HiddenAddresses
-from .ctl_all import UNITS, status_text
+from .control_sockets import UNITS, status_in, status_text
 from .metrics import table
-from .status import TrunkStatus, status_in
+from .status import TrunkStatus
 
 CALLS, LINES = 200, 2000    # of the last calls, and of the journal
 JOURNAL = ['journalctl', '--no-pager', '--no-hostname', '-q', '-o', 'short-iso', '-n', str(LINES)]
@@ -65,7 +65,7 @@ def parts_of(name: str, path: str, now: float, patience: float) -> dict[str, str
     parts = {'about': f'e1gw {VERSION}, trunk {name}, {time.strftime("%Y-%m-%dT%H:%M:%SZ", time.gmtime(now))}\n'
              f'{platform.platform()}, Python {platform.python_version()}, {os.cpu_count()} processors\n'}
     try:
-        status = status_in(text := status_text(path, patience))
+        status = status_in(TrunkStatus, text := status_text(path, patience))
         name = status.name
         parts |= {'status.json': json.dumps(json.loads(text), indent=1) + '\n', 'status': table(status),
                   'calls.csv': calls_of(status)}

@@ -39,12 +39,14 @@ class AwaitedState:
             return False, ', '.join(words) or 'it has no such circuit'
         return True, f'{circuit_words(row.line.circuit for row in rows)} {self.state}'
 
-    def look(self, path: str, patience: float) -> tuple[bool, str]:
-        """The same of a trunk that is asked."""
+    def look(self, name: str, path: str, patience: float) -> tuple[bool, str]:
+        """The same of a trunk that is asked. (A name may be that of a socket here that is still to come.)"""
         try:
             return self.found(status_of(path, patience))
-        except (FileNotFoundError, ConnectionRefusedError):
-            return False, f'nobody listens at {path}'
+        except FileNotFoundError:
+            return False, 'no trunk yet' + f', here or at {path}' * (path != name)
+        except ConnectionRefusedError:
+            return False, 'no trunk listens yet' + f' at {path}' * (path != name)
         except (OSError, ValueError) as fault:
             return False, f'it does not answer: {words_of_fault(fault, path)}'
 
@@ -55,7 +57,7 @@ def wait(trunks: Callable[[], Trunks], awaited: AwaitedState, seconds: float | N
     until, told = seconds is not None and time.monotonic() + seconds, dict[str, str]()
     try:
         while True:
-            found = {name: awaited.look(path, patience) for name, path in trunks()}
+            found = {name: awaited.look(name, path, patience) for name, path in trunks()}
             for name, (_, words) in found.items():
                 if words != told.get(name):
                     print(f'{time.strftime("%H:%M:%S", time.gmtime())} {name}: {words}', flush=True)

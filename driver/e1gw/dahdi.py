@@ -24,7 +24,6 @@ SLOTS = 31                  # octets of a frame
 CLEAR = 1 << 7              # the signalling of a clear channel
 MOST_FRAMES = 64            # of a block: the most that the program reads at once
 MOST_BUFFERS, MOST_OCTETS = 32, 32_768
-FRAMES_A_MS = 8
 # What a span counts, by names of ITU-T G.821 and of its driver.
 COUNTS = ('bipolar_violations', 'crc4_errors', 'e_bits', 'alignment_signal_errors', 'framing_errors', 'code_violations',
           'bit_errors', 'errored_seconds', 'interrupts_missed')
@@ -42,7 +41,6 @@ class Request(enum.IntEnum):
     GET_PARAMETERS = request_of(3, 5, PARAMETERS.size)
     GET_EVENT = request_of(2, 8, NUMBER.size)
     SPAN_STATUS = request_of(3, 10, SPAN.size)
-    GET_BUFFERS = request_of(2, 27, BUFFERS.size)
     SET_BUFFERS = request_of(1, 27, BUFFERS.size)
     AUDIO_MODE = request_of(1, 32, NUMBER.size)
 
@@ -73,17 +71,15 @@ class Blocks:
         """Of a block."""
         return SLOTS * self.frames
 
-    def words(self) -> str:
-        return f'{self.buffers} blocks of {self.frames} frames, {self.frames / FRAMES_A_MS:g} ms each'
 
-    def check(self) -> Blocks:
-        """ValueError if no channel can have them."""
-        if not (1 <= self.frames <= MOST_FRAMES and 2 <= self.buffers <= MOST_BUFFERS):
-            raise ValueError(f'--block is 1 to {MOST_FRAMES}, --buffers 2 to {MOST_BUFFERS}')
-        if self.octets() * self.buffers > MOST_OCTETS:
-            most = MOST_OCTETS // self.octets()
-            raise ValueError(f'--buffers is {most} at most with --block {self.frames}: DAHDI has {MOST_OCTETS} octets')
-        return self
+def blocks_of(text: str) -> Blocks:
+    """Those of an option. ValueError if no channel can have them."""
+    frames, _, buffers = text.partition(',')
+    if not (frames.isdecimal() and buffers.isdecimal() and 1 <= int(frames) <= MOST_FRAMES
+            and 2 <= int(buffers) <= MOST_BUFFERS and SLOTS * int(frames) * int(buffers) <= MOST_OCTETS):
+        raise ValueError(f'--blocks {text} is not FRAMES,N: 1 to {MOST_FRAMES} frames, 2 to {MOST_BUFFERS} blocks, '
+                         f'{MOST_OCTETS} octets in all, {SLOTS} a frame')
+    return Blocks(int(frames), int(buffers))
 
 
 @dataclass(frozen=True)
@@ -127,11 +123,6 @@ def span_facts(octets: bytes) -> SpanFacts:
     known = Alarm(alarms & sum(Alarm))
     return SpanFacts(number, name.partition(b'\0')[0].decode(errors='replace'), known, channels,
                      dict(zip(COUNTS, (*counts, seconds, missed))))
-
-
-def blocks_of(octets: bytes) -> Blocks:
-    _, _, buffers, size, *_ = BUFFERS.unpack(octets)
-    return Blocks(size // SLOTS, buffers)
 
 
 def buffers_of(blocks: Blocks) -> bytes:
@@ -190,9 +181,6 @@ class DahdiChannel:
     def span(self) -> SpanFacts:
         """Of its span."""
         return span_facts(self.ask(Request.SPAN_STATUS, bytes(SPAN.size)))
-
-    def blocks(self) -> Blocks:
-        return blocks_of(self.ask(Request.GET_BUFFERS, bytes(BUFFERS.size)))
 
     def event(self) -> int:
         """Takes the next event."""

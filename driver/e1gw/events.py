@@ -468,7 +468,7 @@ class ReadEvents:
         """The alarms that stand, by what they are."""
         return self._alarms
 
-    def go_on(self, last: Iterable[ReadEvent], alarms: Mapping[str, ReadEvent]) -> None:
+    def restore(self, last: Iterable[ReadEvent], alarms: Mapping[str, ReadEvent]) -> None:
         """Goes on with those that another process has had."""
         self.last.extend(last)
         self._alarms |= alarms

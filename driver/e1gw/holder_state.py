@@ -6,7 +6,7 @@ import json
 import os
 import zlib
 from contextlib import suppress
-from typing import NamedTuple
+from typing import Any, NamedTuple
 
 INTERFACE = 1               # of this file, and of the words at FOLDER/hold
 MEMORY = '/dev/shm'         # where the folder of a trunk is by default
@@ -47,6 +47,15 @@ class HolderState(NamedTuple):
 
     def spell(self) -> bytes:
         return json.dumps(self._asdict()).encode() + b'\n'
+
+
+def plain_in(path: str) -> dict[str, Any]:
+    """What a file of JSON has; nothing if there is none."""
+    try:
+        with open(path, 'rb') as file:
+            return dict(json.load(file))
+    except (OSError, ValueError, TypeError):
+        return {}
 
 
 def state_in(octets: bytes) -> HolderState:

@@ -155,8 +155,7 @@ def head_of(status: TrunkStatus) -> list[HeadLine]:
         (deaf.words_of_rows(status.circuits), True), (block_words(status.circuits), False),
         (codec_line(status.circuits), False)) if words]
     if status.waiting:
-        lines.append(HeadLine(f'configured otherwise when their calls end (reload --when-idle): '
-                              f'{circuit_words(status.waiting)}'))
+        lines.append(HeadLine(f'change to what is configured when their calls end: {circuit_words(status.waiting)}'))
     if status.senders == 'any':
         lines.append(HeadLine(SendersGiven('any').words()))
     lines += [HeadLine(f'ended: {what}: {why}', True) for what, why in status.ended.items() if why is not None]

@@ -99,7 +99,7 @@ class OpenCall:
         self.fresh = False
         return why
 
-    def restarted(self, place: int) -> None:
+    def on_restart(self, place: int) -> None:
         self.seen.clear()
         self.refused.clear()
         self.since, self.why = place, None
@@ -112,7 +112,7 @@ class Resyncs:
         self._restart, self._tell = restart, tell
         self._calls: dict[int, OpenCall] = {}
 
-    def counted(self, circuit: int, code: int, place: int, count: int) -> None:
+    def count_answers(self, circuit: int, code: int, place: int, count: int) -> None:
         """What was answered to datagrams that came up to this place of the trunk."""
         refused = _OF_TIME.get(code)
         if refused is not None:
@@ -136,7 +136,7 @@ class Resyncs:
             why = call.restart_reason(now, counts)
             if why:
                 due.setdefault(why, []).append(n)
-                call.restarted(place)
+                call.on_restart(place)
         for why, circuits in due.items():
             self._restart(circuits)
             self._tell(BuffersRestarted(why, tuple(sorted(circuits))))

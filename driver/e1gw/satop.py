@@ -81,14 +81,6 @@ def is_here(far: str) -> bool:
     return False
 
 
-def ends_of(text: str) -> tuple[tuple[str, int], tuple[str, int]]:
-    """LOCAL:PORT,PEER:PORT, or ValueError."""
-    local, comma, peer = text.partition(',')
-    if not comma:
-        raise ValueError(f'{text} is not LOCAL:PORT,PEER:PORT')
-    return host_and_port(local), host_and_port(peer)
-
-
 def counts_of(line: str) -> dict[str, int] | None:
     """The counts of a line that the program printed, or None if it is another line."""
     pairs = [each.partition('=') for each in line.removeprefix(FIRST).split()]

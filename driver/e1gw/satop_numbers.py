@@ -2,10 +2,11 @@
 satop` has begun, and what it has said since. The holder goes on with them, and the other machine of a pair."""
 from __future__ import annotations
 
-import json
 import os
 import time
 from typing import Any, Mapping, NamedTuple
+
+from .holder_state import plain_in
 
 OCTETS_A_SECOND = 256_000
 ENDS = '.ends'              # behind the path of what the process says: a file with how it began
@@ -32,11 +33,7 @@ def lines_in(path: str) -> list[str]:
 
 def begun_in(path: str) -> Mapping[str, Any]:
     """How it began; nothing if that is not known."""
-    try:
-        with open(f'{path}{ENDS}', 'rb') as file:
-            return dict(json.load(file))
-    except (OSError, ValueError, TypeError):
-        return {}
+    return plain_in(f'{path}{ENDS}')
 
 
 class PacketNumber(NamedTuple):

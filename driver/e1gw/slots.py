@@ -52,7 +52,7 @@ class Slots:
             return [SlotsChanged(SlotsChange.MOVED, by)]
         return [SlotsChanged(SlotsChange.FOUND)]
 
-    def follows(self) -> None:
+    def on_next_program(self) -> None:
         """Another program follows, which has to find slot 16."""
         self.silent = True
 

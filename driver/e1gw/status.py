@@ -1,7 +1,6 @@
 """The status of a trunk: all that e1gw-watch knows of it, of which table, page, metrics and JSON are made."""
 from __future__ import annotations
 
-import json
 from dataclasses import dataclass, field
 from enum import StrEnum
 from typing import Mapping
@@ -9,7 +8,7 @@ from typing import Mapping
 from e1gw_common.answers import CommandCount
 from e1gw_common.call_lines import CallLine
 from e1gw_common.lines import Alignment, LineStatus
-from e1gw_common.plain import flat, typed
+from e1gw_common.plain import flat
 from .clock import ClockStatus
 from .counts import PacketStatus
 from .crc4 import Crc4Status
@@ -17,6 +16,7 @@ from .events import BlockNews, ReadEvent
 from .holder_state import ACTIVE, STANDBY
 from .satop import SatopStatus
 from .slots import SlotsStatus
+from .trunk_files import TrunkFiles
 from .udp_tables import SocketStatus
 from .watcher.card import CardStatus
 
@@ -52,17 +52,6 @@ class TransportStatus:
     satop: SatopStatus | None = flat(default=None)
     slots: SlotsStatus | None = flat(default=None)
     card: CardStatus | None = flat(default=None)
-
-
-@dataclass(frozen=True)
-class TrunkFiles:
-    """Where a trunk is configured, kept and shown."""
-
-    config_file: str = ''
-    calls_file: str | None = None
-    events_file: str | None = None
-    session_path: str | None = None
-    http: tuple[str, int] | None = None
 
 
 @dataclass(frozen=True)
@@ -118,11 +107,3 @@ class TrunkStatus:
     renewed: int = 0
     log_losses: int = 0
     commands: tuple[CommandCount, ...] = ()
-
-
-def status_in(text: str | bytes) -> TrunkStatus:
-    """That which a trunk of this machine answers, perhaps an older one. ValueError if it is none."""
-    try:
-        return typed(TrunkStatus, json.loads(text))
-    except ValueError:
-        raise ValueError('its answer is no status') from None

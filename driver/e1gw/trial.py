@@ -107,13 +107,16 @@ def check(asked: Asked, program: int, config: str, begun: LogPair | None) -> Che
 
 def version_name(asked: Asked) -> str:
     """The version that a program says; nothing if it says none. What was built without proof has it in its name."""
-    program = asked.program
-    done = subprocess.run(['e1gw', '--version'], executable=f'/proc/self/fd/{program}', pass_fds=[program],
-                          stdin=subprocess.DEVNULL, capture_output=True, timeout=asked.seconds, check=False)
+    program, path = asked.program, os.readlink(f'/proc/self/fd/{asked.program}')
+    try:
+        done = subprocess.run(['e1gw', '--version'], executable=f'/proc/self/fd/{program}', pass_fds=[program],
+                              stdin=subprocess.DEVNULL, capture_output=True, timeout=asked.seconds, check=False)
+    except OSError as fault:
+        raise OSError(fault.errno, fault.strerror, path) from None
     name, _, version = done.stdout.decode(errors='replace').strip().partition(' ')
     if name != 'e1gw':
         return ''
-    return f'{version}, {NOT_PROVED}' if os.readlink(f'/proc/self/fd/{program}').endswith('.unproved') else version
+    return f'{version}, {NOT_PROVED}' if path.endswith('.unproved') else version
 
 
 # ---- a configuration ----
@@ -281,7 +284,7 @@ def describe_changes(before: Tried, version: Tried) -> str:
     return '; '.join([*[f'program {version.name} in place of {before.name}'] * (version.name != before.name),
                       *['another law or host'] * (version.head != before.head),
                       *[f'circuits {circuit_words(others)} are configured otherwise'] * bool(others),
-                      *[f'circuits {circuit_words(version.wait)} are when their calls end'] * bool(version.wait)])
+                      *[f'circuits {circuit_words(version.wait)} change when their calls end'] * bool(version.wait)])
 
 
 def describe_effects(force: bool, before: Tried, version: Tried, new: frozenset[int], calls: frozenset[int]) -> str:

@@ -21,11 +21,11 @@ def words_of_refusal(refusal: Refusal, circuit: int, role: Role) -> str:
 
 
 def number(least: float, most: float, kind: type = int) -> Callable[[str], Any]:
-    """A reader of a number for an option; a number outside is refused with the range."""
+    """A reader of a number for an option; a number outside is refused with its range."""
     def numeric(text: str) -> Any:      # (by its name argparse says what it refuses)
         value = kind(text)
         if not least <= value <= most:
-            raise argparse.ArgumentTypeError(f'{least} to {most}')
+            raise argparse.ArgumentTypeError(f'{text} is not {least} to {most}')
         return value
     return numeric
 

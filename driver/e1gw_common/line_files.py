@@ -103,15 +103,15 @@ class EventFile:
     def _write(self) -> None:
         self._has_written()         # (it is opened at once, and says so if it can't be)
         is_last = False
-        while self._waits(lambda: self.waiting) and self.waiting:
+        while self._wait_until(lambda: self.waiting) and self.waiting:
             if self._has_written(self.waiting[0]):
                 self.waiting.popleft()
             elif is_last:
                 return
             else:
-                is_last = self._waits(lambda: False, AGAIN)
+                is_last = self._wait_until(lambda: False, AGAIN)
 
-    def _waits(self, holds: Callable[[], object], seconds: float | None = None) -> bool:
+    def _wait_until(self, holds: Callable[[], object], seconds: float | None = None) -> bool:
         """Waits until something holds or it is closed, so long at most. Returns whether either is so."""
         with self._changed:
             return bool(self._changed.wait_for(lambda: holds() or self._is_closing, seconds))

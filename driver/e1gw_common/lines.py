@@ -120,12 +120,12 @@ class Line:
         """These are its counts up to now."""
         self.seizures, self.answers, self.unacknowledged, self.faults, self.open_for = astuple(counts)
 
-    def commanded(self, command: Command) -> None:
+    def count_command(self, command: Command) -> None:
         """Counts a command that was done."""
         self.seizures += command is Command.SEIZE
         self.answers += command is Command.ANSWER
 
-    def changed(self, before: State, now: float) -> None:
+    def count_change(self, before: State, now: float) -> None:
         """Counts a change of state."""
         state = self.state
         if state in OPEN and self.opened is None:

@@ -6,7 +6,7 @@ import os
 import shutil
 import subprocess
 import sys
-from collections.abc import Iterator
+from collections.abc import Iterator, Mapping
 from contextlib import suppress
 from dataclasses import dataclass, field, replace
 from enum import StrEnum
@@ -114,24 +114,24 @@ def _sessions_in(path: str) -> list[list[str]]:
         raise InputError(f'{path} holds no session (files of NAME.e1gw)')
     if len(trunks) > 1:
         raise InputError(f'{path} holds sessions of several trunks: {", ".join(sorted(trunks))}')
-    files = _in_order([os.path.join(path, name) for name in names])
-    edges = sorted({0, *_session_starts([read_about(file) for file in files]), len(files)})
+    abouts = {file: read_about(file) for file in (os.path.join(path, name) for name in names)}
+    files = _in_order(abouts)
+    edges = sorted({0, *_session_starts([abouts[file] for file in files]), len(files)})
     return [files[first:last] for first, last in zip(edges, edges[1:])]
 
 
-def _in_order(files: list[str]) -> list[str]:
-    """Files that are sorted by their names; each one is behind the one that it says it follows, since the clock may
-    have been set back in between."""
-    after = {file: read_about(file).after for file in files}
-    following = {its: file for file, its in after.items() if its}
+def _in_order(files: Mapping[str, FileAbout]) -> list[str]:
+    """Files that are sorted by their names, with what is said of each; one is behind the one that it says it follows,
+    since the clock may have been set back in between."""
+    following = {its.after: file for file, its in files.items() if its.after}
     names = {os.path.basename(front_of(file)) for file in files}
-    found: list[str] = []
-    for first in files:
-        file = first if after[first] not in names else None
+    found = dict[str, None]()
+    for first, about in files.items():
+        file = first if about.after not in names else None
         while file and file not in found:
-            found.append(file)
+            found[file] = None
             file = following.get(os.path.basename(front_of(file)))
-    return found + [file for file in files if file not in found]
+    return [*found, *(file for file in files if file not in found)]
 
 
 def _session_starts(abouts: list[FileAbout]) -> list[int]:
@@ -143,10 +143,9 @@ def _session_starts(abouts: list[FileAbout]) -> list[int]:
 
 def _enough(files: list[str], last: int) -> int:
     """With which of the files to begin for this number of octets at the end: all before it may be left out."""
-    *places, end = (read_about(file).place for file in files)
-    found = [n for n, place in enumerate(places)
-             if state_of(files[n]) and place is not None and place + last <= (end or 0)]
-    return found[-1] if found else 0
+    end = read_about(files[-1]).place or 0
+    return next((n for n in reversed(range(len(files) - 1)) if (place := read_about(files[n]).place) is not None
+                 and place + last <= end and state_of(files[n])), 0)
 
 
 def front_of(path: str) -> str:

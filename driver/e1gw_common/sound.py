@@ -101,7 +101,7 @@ class ListeningTimes:
     def __init__(self) -> None:
         self.due, self.each, self.looks = 0, EACH, 0
 
-    def come(self, place: int, most: float) -> bool:
+    def advance(self, place: int, most: float) -> bool:
         """Whether to listen at a place, if samples are to be at most this number of octets apart."""
         if place < self.due:
             return False

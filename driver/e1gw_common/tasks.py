@@ -66,7 +66,7 @@ async def retry(work: Callable[[], Awaitable[None]], what: str) -> None:
         try:
             return await work()
         except Exception as fault:      # pylint: disable=broad-exception-caught
-            has_failed(what, fault)
+            log_failure(what, fault)
             await asyncio.sleep(AGAIN)
 
 
@@ -76,7 +76,7 @@ def reporting_failures(what: str) -> Iterator[None]:
     try:
         yield
     except Exception as fault:      # pylint: disable=broad-exception-caught
-        has_failed(what, fault)
+        log_failure(what, fault)
 
 
 def report_failure(work: Callable[P, object], what: str) -> Callable[P, None]:
@@ -87,7 +87,7 @@ def report_failure(work: Callable[P, object], what: str) -> Callable[P, None]:
     return does
 
 
-def has_failed(what: str, fault: Exception) -> None:
+def log_failure(what: str, fault: Exception) -> None:
     """Reports a failure of a work that goes on."""
     at = traceback.extract_tb(fault.__traceback__)[-1]
     logger.error('%s goes on: %s: %s (%s:%s in %s)', what, type(fault).__name__, fault,

@@ -347,7 +347,7 @@ class Facts:
         self.strays: Counter[tuple[str, int]] = Counter()       # at ports without a circuit: from, to
         self.under_way: list[int] = []      # circuits with a call at the start of the session
 
-    def began(self, place: int, alarms: Iterable[bool], lines: Iterable[Sequence[str]]) -> None:
+    def begin_session(self, place: int, alarms: Iterable[bool], lines: Iterable[Sequence[str]]) -> None:
         """The session begins at this place, in the first column, with these alarms and lines, e1gw-tell(5)."""
         self.place = self.start = place
         for which, on in zip(self.alarms, alarms):

@@ -14,12 +14,14 @@ AGAIN = 16                  # samples at least in the page of a trunk in service
 
 
 class SpeechListener:
-    """Puts the results into the columns of facts."""
+    """Puts the results into the columns of facts. If one circuit `only` is asked for, time slots of others are listened
+    to while its own reads like the other law: whether they do, too."""
 
-    def __init__(self, facts: Facts, program: str | None = None) -> None:
+    def __init__(self, facts: Facts, program: str | None = None, only: int = 0) -> None:
         self.facts = facts
         self.most = facts.last / AGAIN if facts.last else math.inf
         self.frame = 0                          # a place where a frame with the signal began
+        self._rows = [facts.rows[only]] if only else [*facts.rows.values()]     # whose time slots are listened to
         self.orders = Orders(program, facts.law,
                              lambda circuit, place, seen: facts.add_sample(circuit, place, 'order', seen))
 
@@ -27,7 +29,7 @@ class SpeechListener:
         """An admitted datagram: one of some in G.711, and of G.726 some that are consecutive."""
         stream = row.stream
         if stream.stretch is None:
-            if not stream.came.come(place, self.most):
+            if not stream.came.advance(place, self.most):
                 return
             payload = packet_of(datagram).payload
             if row.codec not in BITS:
@@ -41,13 +43,16 @@ class SpeechListener:
 
     def trunk(self, octets: bytes, place: int) -> None:
         """Octets of the trunk up to a place: of each open path's time slot some, if frames are found in them."""
-        due = [row for row in self.facts.rows.values() if row.states.value in OPEN and place >= row.stream.slot.due]
+        due = [row for row in self._rows if row.states.value in OPEN and place >= row.stream.slot.due]
         before = (self.frame - place + len(octets)) % DOUBLE        # where frames began before this
         begin = next((at for at in (before, *range(DOUBLE)) if is_frame(octets, at)), None) if due else None
         if begin is None:
             return
         self.frame = place - len(octets) + begin
         for row in due:
-            row.stream.slot.come(place, self.most)
+            row.stream.slot.advance(place, self.most)
             first = (begin + row.number + (row.number > 15)) % FRAME
-            row.cell.add_sample('slot', sample_speech(octets[first:first + LOOKED_AT * FRAME:FRAME], self.facts.law))
+            seen = sample_speech(octets[first:first + LOOKED_AT * FRAME:FRAME], self.facts.law)
+            row.cell.add_sample('slot', seen)
+            if seen.other:
+                self._rows = [*self.facts.rows.values()]

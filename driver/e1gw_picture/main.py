@@ -133,7 +133,7 @@ def failure_of(word: str, session: RecordedSession) -> str:
     if not word.startswith('fault') or 'Truncated' in word:
         return ''
     raw = raw_words_of(session.files[0]) if session.files[0] != '-' else None
-    return f'the session failed: {word}{f": {raw}" if raw else ""}'
+    return f'{session.files[0]}: the session failed: {word}{f": {raw}" if raw else ""}'
 
 
 def drawn(options: argparse.Namespace) -> tuple[str, bool]:

@@ -34,16 +34,16 @@ def rows_of(config: TrunkConfig, wait: int = SEIZURE_WAIT) -> dict[int, Row]:
     return rows
 
 
-def records_of(octets: Iterable[bytes]) -> Iterator[bytes]:
-    """The records of a session, each with its head, those of the trunk in short pieces, since a change is reported
-    behind the record in which it was. The last one may be cut."""
+def records_of(octets: Iterable[bytes], most: int = PIECE) -> Iterator[bytes]:
+    """The records of a session, each with its head, those of the trunk in pieces of so many octets, since a change is
+    reported behind the record in which it was. The last one may be cut."""
     held = b''
     for piece in octets:
         held, at = held + piece, 0
         end = len(held)
         while at + HEAD <= end and (after := at + HEAD + (held[at + 2] << 8 | held[at + 3])) <= end:
-            if after - at > HEAD + PIECE and held[at] == TRUNK:
-                yield from (trunk_record(held[n:min(n + PIECE, after)]) for n in range(at + HEAD, after, PIECE))
+            if after - at > HEAD + most and held[at] == TRUNK:
+                yield from (trunk_record(held[n:min(n + most, after)]) for n in range(at + HEAD, after, most))
             else:
                 yield held[at:after]
             at = after
@@ -54,11 +54,12 @@ def records_of(octets: Iterable[bytes]) -> Iterator[bytes]:
 
 class SessionReading:
     """A session while it is read. It begins at a place of the trunk, with the gateway as reported. `only` is the
-    circuit whose packets are counted, if it is one alone."""
+    circuit whose packets are counted, if it is one alone: that is read in coarse pieces."""
 
     def __init__(self, facts: Facts, replay: Replay, program: str | None = None, place: int = 0, only: int = 0) -> None:
         self.facts, self.replay, self.only = facts, replay, only
-        self.listener = SpeechListener(facts, program)
+        self.listener = SpeechListener(facts, program, only)
+        self._piece, self._least = (MOST, MOST) if only else (PIECE, LEAST)
         self.begin = self.place = place         # of the session, of all that was answered
         self.at = self.changed = place          # of the last report, and of the last reported change
         self.answers = b''                      # those that were not looked at
@@ -76,8 +77,8 @@ class SessionReading:
         if told and told[0][:3] != TELLS:
             raise InputError(f'e1gw replay tells in another way: {" ".join(told[0])}')
         self.facts.law = told[0][3] if told else self.facts.law
-        self.facts.began(self.place, [bit == '1' for words in told if words[0] == 'alarms' for bit in words[1:]],
-                         [words[1:] for words in told if words[0] == 'line'])
+        alarms = [bit == '1' for words in told if words[0] == 'alarms' for bit in words[1:]]
+        self.facts.begin_session(self.place, alarms, [words[1:] for words in told if words[0] == 'line'])
 
     def read(self, octets: Iterable[bytes], reached: Callable[[int], None] = lambda place: None) -> None:
         """Reads all, or up to a record that the program refuses. While some records are looked at, the program has the
@@ -98,14 +99,14 @@ class SessionReading:
 
     def _batches(self, octets: Iterable[bytes]) -> Iterator[list[bytes]]:
         """All records, some at a time: in a long session more than in a short one."""
-        records, left = list[bytes](), LEAST
-        for record in records_of(octets):
+        records, left = list[bytes](), self._least
+        for record in records_of(octets, self._piece):
             records.append(record)
             if record[0] == TRUNK:
                 left -= len(record) - HEAD
             if left <= 0 or record[0] != TRUNK and len(records) >= RECORDS:
                 yield records
-                records, left = [], min(max(self.facts.width, LEAST), MOST)
+                records, left = [], min(max(self.facts.width, self._least), MOST)
         yield records
 
     def _take_records(self, records: list[bytes]) -> bool:

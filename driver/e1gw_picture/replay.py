@@ -11,6 +11,7 @@ import threading
 from collections.abc import Callable
 from contextlib import suppress
 
+from e1gw_common.config_faults import config_words
 from e1gw_common.lines import SEIZURE_WAIT, wait_words
 from e1gw_common.session import trunk_record
 from e1gw_common.session_files import PIECE, InputError
@@ -24,7 +25,7 @@ class Replay:
     read as each is ready, so neither process waits for the other."""
 
     def __init__(self, program: str, config: str, state: str = '', wait: int = SEIZURE_WAIT) -> None:
-        self._errors, self._socket = tempfile.TemporaryFile(), socket.socket(socket.AF_UNIX)
+        self._config, self._errors, self._socket = config, tempfile.TemporaryFile(), socket.socket(socket.AF_UNIX)
         self._waits = queue.SimpleQueue[bytes]()        # octets to be written, up to the empty ones
         self._told, self._is_told = b'', False          # lines not taken yet; the last one has come
         self._tells: list[socket.socket] = []           # the socket, while it is connected
@@ -107,7 +108,8 @@ class Replay:
         self._socket.close()
         self._errors.close()
         if status == 2:
-            raise InputError(words or 'e1gw replay: status 2')
+            cause = config_words(self._config)
+            raise InputError(': '.join(filter(None, (words or 'e1gw replay: status 2', cause))))
         if not status and not self._is_told:
             raise InputError('e1gw replay has not told all: what it told was not read in time')
         return words if status else ''

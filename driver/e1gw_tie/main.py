@@ -90,7 +90,7 @@ async def work(tie: Tie, site: Site, path: str | None, http: tuple[str, int] | N
     loop, ends, status = asyncio.get_running_loop(), asyncio.Event(), 0
     for each in (signal.SIGINT, signal.SIGTERM, signal.SIGHUP):
         loop.add_signal_handler(each, ends.set)
-    loop.set_exception_handler(lambda _, about: site.turned_away(str(about.get('exception') or about['message'])))
+    loop.set_exception_handler(lambda _, about: site.report_refusal(str(about.get('exception') or about['message'])))
     tasks = [asyncio.create_task(each) for each in (tie.run(), site.run(), ends.wait(), sign_of_life())]
     done, _ = await asyncio.wait(tasks, return_when=asyncio.FIRST_COMPLETED)
     with suppress(TimeoutError):

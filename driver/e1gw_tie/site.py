@@ -87,7 +87,7 @@ class Site:
         if self._writer is not None:
             self._writer.transport.abort()
 
-    def turned_away(self, why: str) -> None:
+    def report_refusal(self, why: str) -> None:
         """Tells why nobody is connected."""
         if self._reasons.is_told(why, asyncio.get_running_loop().time()):
             self._tell(NoConnection(why))
@@ -105,10 +105,10 @@ class Site:
                                                             server_hostname=name)
                 await self._run_connection(*streams)
             except ssl.SSLError as fault:
-                self.turned_away(str(fault))
+                self.report_refusal(str(fault))
             except OSError as fault:
                 why = os.strerror(fault.errno) if fault.errno and fault.errno > 0 else fault.strerror or 'no answer'
-                self.turned_away(f'{host}:{port}: {why}')
+                self.report_refusal(f'{host}:{port}: {why}')
             await asyncio.sleep(AGAIN)
 
     async def _accept(self, reader: asyncio.StreamReader, writer: asyncio.StreamWriter) -> None:
@@ -118,7 +118,7 @@ class Site:
         if last := one_too_many(self._strangers, self._address):
             last.cancel()
             del self._strangers[last]
-            self.turned_away('too many connections that have not greeted')
+            self.report_refusal('too many connections that have not greeted')
         self._strangers[task] = address_of(writer)
         try:
             await self._run_connection(reader, writer)
@@ -145,7 +145,7 @@ class Site:
             if self._writer is writer:
                 self._on_disconnect(why or 'closed')
             elif why:
-                self.turned_away(why)
+                self.report_refusal(why)
             writer.transport.abort()
 
     async def _exchange_greetings(self, reader: asyncio.StreamReader, writer: asyncio.StreamWriter) -> Greeting:

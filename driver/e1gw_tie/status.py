@@ -111,7 +111,7 @@ async def serve_status(tie: Tie, path: str | None, http: tuple[str, int] | None)
     async def fresh() -> StatusTexts[TieStatus]:
         return texts_of(tie)
 
-    async def answers(reader: asyncio.StreamReader, writer: asyncio.StreamWriter) -> None:
+    async def answer_commands(reader: asyncio.StreamReader, writer: asyncio.StreamWriter) -> None:
         with suppress(OSError, ValueError):
             async with asyncio.timeout(SECONDS):
                 while line := await reader.readline():
@@ -123,10 +123,10 @@ async def serve_status(tie: Tie, path: str | None, http: tuple[str, int] | None)
                     await writer.drain()
         writer.close()
 
-    def came(reader: asyncio.StreamReader, writer: asyncio.StreamWriter) -> None:
-        tasks.begin(answers(reader, writer))        # (a coroutine that is cancelled at the end asyncio would report)
+    def on_connect(reader: asyncio.StreamReader, writer: asyncio.StreamWriter) -> None:
+        tasks.begin(answer_commands(reader, writer))    # (asyncio would report a coroutine that is cancelled)
     tasks = Tasks()
     if path:
-        await asyncio.start_unix_server(came, sock=unix_listener(path, MODE, None), limit=MOST_LINE)
+        await asyncio.start_unix_server(on_connect, sock=unix_listener(path, MODE, None), limit=MOST_LINE)
     if http:
         await asyncio.start_server(WebServer(fresh).on_connect, *http, limit=MOST_LINE)

@@ -260,27 +260,34 @@ def parser() -> argparse.ArgumentParser:
     words.add_argument('--over', action='store_true', help='overwrites existing files')
     words.add_argument('--device', default='--unix /run/card/NAME', metavar='OPTIONS',
                        help='what e1gw-trunk(1) is to open, in .options [default: --unix /run/card/NAME]')
-    values = words.add_argument_group('values')
-    values.add_argument('--trunk', type=number(1, TRUNKS), metavar='N',
-                        help=f'which trunk of the machine, 1 to {TRUNKS}: its ports '
-                             '[default: with --write the first whose ports are free, else 1]')
-    values.add_argument('--plain', action='store_true',
-                        help='the SSRC is the circuit\'s number, and packets are numbered from 0 [default: at random]')
+    add_speech(words.add_argument_group('circuits and speech'))
+    add_ports(words.add_argument_group('addresses and ports'))
+    return words
+
+
+def add_speech(values: argparse._ArgumentGroup) -> None:
+    values.add_argument('--role', choices=tuple(ROLES), default='outgoing',
+                        help='circuits that e1gw seizes: all, none, odd or even ones [default: outgoing, all]')
     values.add_argument('--law', choices=('A', 'mu'), default='A', help='the law of the trunk [default: A]')
     values.add_argument('--codec', choices=CODECS, help='[default: G.711 of the law]')
     values.add_argument('--payload', type=number(0, 127), metavar='TYPE', help='[default: 96 for G.726]')
     values.add_argument('--ptime', type=int, choices=(10, 20, 30), default=20, help='ms in a packet [default: 20]')
     values.add_argument('--prefill', type=number(0, 1600), default=320, metavar='SAMPLES',
                         help='how late packets may be, in samples, 8 a ms [default: 320, 40 ms]')
-    values.add_argument('--role', choices=tuple(ROLES), default='outgoing',
-                        help='circuits that e1gw seizes: all, none, odd or even ones [default: outgoing, all]')
+    values.add_argument('--plain', action='store_true',
+                        help='the SSRC is the circuit\'s number, and packets are numbered from 0 [default: at random]')
+
+
+def add_ports(values: argparse._ArgumentGroup) -> None:
     values.add_argument('--host', default='127.0.0.1', help='the address of this end [default: 127.0.0.1]')
     values.add_argument('--peer', default='127.0.0.1', metavar='HOST', help='that of the far end [default: 127.0.0.1]')
+    values.add_argument('--trunk', type=number(1, TRUNKS), metavar='N',
+                        help=f'which trunk of the machine, 1 to {TRUNKS}: its ports '
+                             '[default: with --write the first whose ports are free, else 1]')
     values.add_argument('--first-local', type=number(1, 65_535), metavar='PORT',
                         help='the port of circuit 1 here [default: by --trunk]')
     values.add_argument('--first-peer', type=number(1, 65_535), metavar='PORT',
                         help='that of circuit 1 there [default: the same, and 10000 more at the same address]')
-    return words
 
 
 def run(asked: argparse.Namespace) -> int:

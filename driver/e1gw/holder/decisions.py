@@ -69,7 +69,7 @@ class Trial(NamedTuple):
     until: float = inf
     deaths: int = 0
 
-    def is_up(self, now: float) -> Trial:
+    def with_program_up(self, now: float) -> Trial:
         return self._replace(until=min(self.until, now + TRIED))
 
     def with_death(self) -> Trial:

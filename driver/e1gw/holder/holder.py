@@ -6,11 +6,12 @@ import time
 from contextlib import suppress
 
 from e1gw_common.fault_words import words_of_fault
+from e1gw_common.unix_listener import CannotListen
 from e1gw_common.writers import put_file
 from .. import VERSION
 from ..holder_state import ACTIVE, INTERFACE, STANDBY, HolderState, start_of
 from .decisions import Deaths, EndReason, Renewals
-from .journal import Severity, has_failed, log_line
+from .journal import Severity, log_line, report_failure
 from .lifecycle import finish, is_late, on_program_exit, on_program_up, start_program
 from .line import HeldLine
 from .log import FILES, HeldLog
@@ -50,7 +51,7 @@ class Holder:
         self.deaths, self.renewals, self.due, self._ticked = Deaths(), Renewals(), 0.0, 0.0
         self._waits = self._failed = ''
         self.log_user, self.lock = (0, 0.0), -1     # who has the log locked, and since when; the lock of the trunk
-        loop.signalled = self.reloads.signalled
+        loop.on_signal = self.reloads.on_signal
 
     # ---- turns ----
 
@@ -61,7 +62,7 @@ class Holder:
                 self.turn(time.monotonic())
                 self.loop.wait(self._wait())
             except Exception as fault:      # pylint: disable=broad-exception-caught
-                has_failed(fault, self._failed)
+                report_failure(fault, self._failed)
                 self._failed = str(fault)
                 time.sleep(AGAIN)
         return self.status
@@ -96,9 +97,11 @@ class Holder:
         """Whether it has ended, is late, or has come to carry the trunk."""
         if (status := program.exit_status()) is not None:
             on_program_exit(self, program, status, now)
-        elif is_late(program, now):
+        elif is_late(program, now) and not program.hangs:
+            what = 'end' if program.asked else 'come up'
+            log_line(Severity.WARNING, f'program {program.pid} does not {what} in time, and is killed')
             program.kill()
-        elif not program.is_up and program.looks_up(f'{self.folder}/program'):
+        elif not program.is_up and program.is_answering(f'{self.folder}/program'):
             on_program_up(self, now)
 
     def _go_on(self, now: float) -> None:
@@ -115,23 +118,23 @@ class Holder:
         if self.line.is_opening and self.line.look(now):
             self.line.close()               # (it was opened too late)
         if not self.versions.now and now >= self.due:
-            self.reloads.first()
+            self.reloads.try_first()
 
     def _bring_up(self, now: float) -> None:
         """Goes towards a program, if there is none: a version, the line, a start."""
         if not self.versions.now:
-            return self.reloads.first() if now >= self.due else None
+            return self.reloads.try_first() if now >= self.due else None
         if not self.line.files and self.line.look(now):
-            self._is_opened()
+            self._on_opening_end()
         if self.line.files and now >= self.due and self.status is None:
             start_program(self, now)
 
-    def _is_opened(self) -> None:
+    def _on_opening_end(self) -> None:
         """It has come to be known whether the line can be opened."""
         if self.line.files:
             self.publish()
         elif self.options.line.reopens or self.was_up:
-            self.waits('the trunk is not open yet')
+            self.report_waiting('the trunk is not open yet')
         else:
             finish(self, self.line.fault, 1)
 
@@ -141,7 +144,7 @@ class Holder:
         if self.watcher:
             self.watcher.step(now)
         if self.versions.trial and now >= self.versions.trial.until:
-            self.versions.stays()
+            self.versions.confirm()
             self.sockets.close_others(self.versions.addresses())
             self.publish()
         self.listen()
@@ -161,7 +164,7 @@ class Holder:
 
     def listen(self) -> None:
         """Listens in the folder, if that is there and has no socket of this holder."""
-        with suppress(OSError):
+        with suppress(OSError, CannotListen):
             self.door.open_at(f'{self.folder}/hold')
 
     # ---- what is wanted ----
@@ -214,7 +217,7 @@ class Holder:
         self.line.close()
         self.sockets.close_others(())
         give_log(self)
-        self.waits('it does not have the trunk')
+        self.report_waiting('it does not have the trunk')
         self.answer_waiting('reload', 'renew', 'take', refused='the trunk was released')
         self.answer_waiting('release')
 
@@ -255,7 +258,7 @@ class Holder:
         except OSError as fault:
             log_line(Severity.WARNING, f'{words_of_fault(fault)}: who watches the trunk sees it as it was')
 
-    def waits(self, words: str) -> None:
+    def report_waiting(self, words: str) -> None:
         """It has begun, and waits for this."""
         if words != self._waits:
             self.store.notify('READY=1', f'STATUS={words}')

@@ -9,8 +9,9 @@ import sys
 import time
 from typing import Any, Collection, Mapping
 
-from ..memory import in_memory
-
+from e1gw_common.fault_words import words_of_fault
+from ..memory import in_memory, octets_in
+from .program import spawned
 
 SECONDS, PATIENCE = 10.0, 30.0      # for the program to check a configuration, and for names; for all of it
 SOON = 0.002                # seconds between two looks at one that is waited for
@@ -22,34 +23,32 @@ class Job:
     """One that runs. What it is asked and what it answers are JSON."""
 
     def __init__(self, asked: Mapping[str, Any], files: Collection[int] = ()) -> None:
-        """It has these descriptors by their numbers. OSError if it cannot be started."""
-        self.asked = asked
-        self._found = os.memfd_create('e1gw-found')
-        wants = in_memory(json.dumps({**asked, 'seconds': SECONDS}).encode())
-        self._until = time.monotonic() + PATIENCE
-        os.lseek(wants, 0, os.SEEK_SET)
+        """It has these descriptors by their numbers."""
+        self._until, self._later = time.monotonic() + PATIENCE, 'it is not tried to its end'
+        self._found = self._pid = wants = -1
         try:
-            self._pid = os.posix_spawn(
-                sys.executable, [sys.executable, '-BPS', '-c', PYTHON, TOP], os.environ, setsid=True, setsigmask=[],
-                setsigdef=[signal.SIGPIPE], file_actions=[
-                    (os.POSIX_SPAWN_DUP2, wants, 0), (os.POSIX_SPAWN_DUP2, self._found, 1),
-                    *((os.POSIX_SPAWN_DUP2, file, file) for file in files)])
-        except OSError:
-            os.close(self._found)
-            raise
-        finally:
+            self._found = os.memfd_create('e1gw-found')
+            wants = in_memory(json.dumps({**asked, 'seconds': SECONDS}).encode())
+            os.lseek(wants, 0, os.SEEK_SET)
+            self._pid = spawned(sys.executable, [sys.executable, '-BPS', '-c', PYTHON, TOP],
+                                [(wants, 0), (self._found, 1), *zip(files, files)])
+        except OSError as fault:
+            self._later = words_of_fault(fault)
+        if wants >= 0:
             os.close(wants)
 
     def look(self) -> Mapping[str, Any] | None:
-        """Its answer, once, if it has one; of one that dies or takes too long why it is refused."""
-        if not os.waitpid(self._pid, os.WNOHANG)[0] and time.monotonic() < self._until:
+        """Its answer, once, if it has one; of one that cannot be started, dies or takes too long why it is refused."""
+        if self._pid > 0 and os.waitpid(self._pid, os.WNOHANG)[0]:
+            self._pid = -1                  # (from now on its number may be another one's)
+        if self._pid > 0 and time.monotonic() < self._until:
             return None
-        octets = os.pread(self._found, os.fstat(self._found).st_size, 0)
-        self.end()
         try:
-            return dict(json.loads(octets))
+            return dict(json.loads(octets_in(self._found)))
         except ValueError:
-            return {'later': 'it is not tried to its end'}
+            return {'later': self._later}
+        finally:
+            self.end()
 
     def wait(self) -> Mapping[str, Any]:
         """Waits for its answer."""
@@ -61,9 +60,12 @@ class Job:
         """It is ended, if it goes on. To be called before it is dropped without an answer."""
         if self._found >= 0:
             os.close(self._found)
-            self._found = -1
-            try:
-                os.kill(self._pid, signal.SIGKILL)
-                os.waitpid(self._pid, 0)
-            except (ProcessLookupError, ChildProcessError):     # (it has ended, and its status was taken)
-                pass
+        if self._pid > 0:
+            os.kill(self._pid, signal.SIGKILL)
+            os.waitpid(self._pid, 0)
+        self._found = self._pid = -1
+
+
+def why_not(found: Mapping[str, Any]) -> str:
+    """Why what was asked was not done, by the answer; nothing if it was."""
+    return str(found.get('refused') or found.get('later') or '')

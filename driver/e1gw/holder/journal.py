@@ -27,7 +27,7 @@ def log_line(level: Severity, words: str) -> None:
         pass
 
 
-def has_failed(fault: BaseException, before: str) -> None:
+def report_failure(fault: BaseException, before: str) -> None:
     """Reports a failure of a holder that goes on, with its place, unless it is the one before."""
     if str(fault) == before:
         return

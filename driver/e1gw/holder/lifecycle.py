@@ -14,10 +14,10 @@ from e1gw_common.fault_words import name_of_process, words_of_fault
 from e1gw_common.writers import put_file
 from ..holder_state import folder_in_memory
 from .decisions import FIRST_PAUSE, Decision, EndFault, EndOfProgram, EndReason, NextAct, after_end
-from .job import Job
+from .job import Job, why_not
 from .journal import Severity, log_line
 from .log import has_log, is_there, rename_over, user_of
-from .program import CRASHES, HeldProgram, ProgramWants, counted_octets, end_words, fault_in
+from .program import CRASHES, HeldProgram, ProgramWants, counted_octets, end_words, fault_in, open_said
 from .version import Version
 
 if TYPE_CHECKING:
@@ -38,13 +38,13 @@ def start_program(holder: Holder, now: float) -> None:
     version = holder.versions.now
     assert version
     make_folder(holder)
-    if waits_for_log(holder, now):
+    if wait_for_log(holder, now):
         return
     put_back_log(holder)
     bind_sockets(holder, now)
     holder.line.begin(now)
     config = put_version(holder, version)
-    said = open_said(holder.folder)
+    said = open_said(f'{holder.folder}/said')
     try:
         holder.program = HeldProgram.started(ProgramWants(
             version.program, config, holder.folder, holder.line.program_files,
@@ -100,7 +100,7 @@ def move_folder(holder: Holder, why: str) -> bool:
     return True
 
 
-def waits_for_log(holder: Holder, now: float) -> bool:
+def wait_for_log(holder: Holder, now: float) -> bool:
     """Whether a process has the log locked. A program that no holder has on its leash ends in a moment, or is killed;
     anybody else is named and waited for."""
     log = f'{holder.folder}/log'
@@ -141,15 +141,6 @@ def bind_sockets(holder: Holder, now: float) -> None:
         log_line(Severity.ERROR, f'circuit {n} has no port: {sockets.lacking[n]}; it is tried again each second')
 
 
-def open_said(folder: str) -> int:
-    """A new file for what a program says: in the folder, or in memory if there is no room."""
-    try:
-        put_file(f'{folder}/said', b'', 0o640)
-        return os.open(f'{folder}/said', os.O_RDWR | os.O_APPEND | os.O_CLOEXEC)
-    except OSError:
-        return os.memfd_create('e1gw-said')
-
-
 def on_program_up(holder: Holder, now: float) -> None:
     """A program carries the trunk."""
     program, versions = holder.program, holder.versions
@@ -157,7 +148,7 @@ def on_program_up(holder: Holder, now: float) -> None:
     after = f'goes on after {(now - holder.silent) * 1000:.0f} ms' if holder.was_up else 'carries the trunk'
     words = f'{holder.why}: program {program.pid} {after}{holder.lost}'
     holder.was_up, holder.since = True, time.time()
-    versions.is_up(now)
+    versions.on_up(now)
     holder.sockets.close_others(versions.addresses())
     with suppress(OSError):                 # (it was removed in this moment: the next program has another one)
         holder.log.hold(f'{holder.folder}/log')
@@ -284,12 +275,8 @@ def save(holder: Holder) -> bool:
     version = holder.versions.now
     if not version:
         return False
-    try:
-        found = Job({'what': 'save', 'program': version.program, 'config': version.its.config(), 'state':
-                     holder.options.state, 'log': f'{holder.folder}/log', 'wait': holder.options.wait},
-                    [version.program]).wait()
-    except OSError as fault:
-        found = {'later': words_of_fault(fault)}
-    if why := found.get('refused') or found.get('later'):
+    asked = {'what': 'save', 'program': version.program, 'config': version.its.config(), 'state': holder.options.state,
+             'log': f'{holder.folder}/log', 'wait': holder.options.wait}
+    if why := why_not(Job(asked, [version.program]).wait()):
         log_line(Severity.ERROR, f'the state is not saved, and the log stays: {why}')
     return not why

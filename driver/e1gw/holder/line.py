@@ -28,11 +28,11 @@ class HeldLine:
 
     ends = 'line-in', 'line-out'
 
-    def __init__(self, options: LineWants, files: Mapping[str, int], loop: Loop) -> None:
-        """`files` were given to this process, of the same line."""
+    def __init__(self, options: LineWants, files: dict[str, int], loop: Loop) -> None:
+        """It takes those of its names from the `files` that this process was given."""
         self.options, self.loop = options, loop
         self.reads, self.writes = (f'{each}-{zlib.crc32(options.trunk.encode()):08x}' for each in self.ends)
-        self.files = {name: files[name] for name in (self.reads, self.writes) if name in files}
+        self.files = {name: files.pop(name) for name in (self.reads, self.writes) if name in files}
         self.fault, self.since = '', time.time()        # why it is not open; since when it is, or is not
         self.number: int | None = None          # of the first packet, if it has packets and that was said
         self.card: Card | None = None
@@ -40,7 +40,7 @@ class HeldLine:
         self._thread: threading.Thread | None = None
         self._found: Mapping[str, int] | Exception | None = None
         if self.files:
-            self.is_open()
+            self.on_open()
 
     @property
     def program_files(self) -> tuple[int, int]:
@@ -72,13 +72,13 @@ class HeldLine:
         found, self._found, self._thread = self._found, None, None
         self._openings = self._openings.with_one(now)
         if isinstance(found, Exception):
-            self.has_failed(f'the trunk cannot be opened: {words_of_fault(found)}', now)
+            self.on_fault(f'the trunk cannot be opened: {words_of_fault(found)}', now)
             return True
         self.files = {**found}
-        self.is_open()
+        self.on_open()
         return True
 
-    def has_failed(self, fault: str, now: float) -> None:
+    def on_fault(self, fault: str, now: float) -> None:
         """It is not open, and why: it is said once."""
         if fault != self.fault:
             log_line(Severity.WARNING, f'{fault}; it is tried again' if self.options.reopens else fault)
@@ -97,7 +97,7 @@ class HeldLine:
         stream = self.options.open()
         return {self.reads: stream.reads} | ({self.writes: stream.writes} if stream.writes != stream.reads else {})
 
-    def is_open(self) -> None:
+    def on_open(self) -> None:
         """It has come to be open."""
         self.fault, self.since = '', time.time()
         self.card = card_of(self.program_files[0], self.loop)
@@ -130,7 +130,7 @@ class HeldLine:
     def end(self, why: str, now: float) -> None:
         """It is closed, to be opened again."""
         self.close()
-        self.has_failed(why, now)
+        self.on_fault(why, now)
         self.since = time.time()
 
     def close(self) -> None:

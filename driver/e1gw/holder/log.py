@@ -6,7 +6,6 @@ import fcntl
 import os
 import time
 from contextlib import suppress
-from typing import Mapping
 
 NAME, LOCK = 'log-', 'lock'
 FILES = 'state.0', 'state.1', 'records.0', 'records.1'
@@ -16,9 +15,9 @@ CHUNK = 1 << 20
 class HeldLog:
     """The files of a log, open."""
 
-    def __init__(self, given: Mapping[str, int]) -> None:
-        """`given` are descriptors of the holder before this one, by their names."""
-        self._files = {name: given[NAME + name] for name in FILES if NAME + name in given}
+    def __init__(self, given: dict[str, int]) -> None:
+        """It takes its own from those of the holder before this one, `given` by their names."""
+        self._files = {name: given.pop(NAME + name) for name in FILES if NAME + name in given}
         if len(self._files) < len(FILES):
             self.close()
 

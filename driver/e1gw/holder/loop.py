@@ -16,7 +16,7 @@ class Loop:
     def __init__(self) -> None:
         self._poll, self._watched = select.poll(), dict[int, Callable[[], object]]()
         self._wakes, self._wake = os.pipe2(os.O_NONBLOCK | os.O_CLOEXEC)
-        self.signalled: Callable[[int], object] = lambda number: None
+        self.on_signal: Callable[[int], object] = lambda number: None
         self.watch(self._wakes, self._woken)
 
     def watch(self, file: int, call: Callable[[], object], events: int = select.POLLIN) -> None:
@@ -43,7 +43,7 @@ class Loop:
     def _woken(self) -> None:
         with suppress(BlockingIOError):
             for number in filter(None, os.read(self._wakes, 256)):
-                self.signalled(number)
+                self.on_signal(number)
 
     def catch(self) -> None:
         """Signals come here from now on, those that waited first."""

@@ -1,19 +1,19 @@
 """The command: begins to hold a trunk, or goes on where the holder before has left."""
 from __future__ import annotations
 
-import json
 import os
 import stat
 import sys
 import time
-from typing import Any, NoReturn
+from typing import NoReturn
 
 from e1gw_common.fault_words import options_words, words_of_fault
 from e1gw_common.writers import hold_descriptors
+from ..holder_state import plain_in
 from ..lock import InUse, hold, let_go
 from .decisions import Beginning, beginning_of, is_active
 from .holder import Holder
-from .job import Job
+from .job import Job, why_not
 from .journal import NAME, Severity, log_line
 from .lifecycle import LOST, finish
 from .line import HeldLine
@@ -23,7 +23,6 @@ from .options import HELP, Options, options_of
 from .program import HeldProgram, counted_octets
 from .roles import give_log
 from .satop_line import SatopLine
-from .sockets import NAME as SOCKETS
 from .store import Store
 from .version import Version, tried_in, version_of
 from .watcher_child import WatcherChild
@@ -74,7 +73,7 @@ def lock_trunk(folder: str, store: Store) -> int:
     """The lock of the trunk, whose folder nobody else can write to. InUse says who has it; OSError if it cannot be
     had."""
     os.makedirs(os.path.dirname(folder), exist_ok=True)
-    lock = store.files['lock'] if 'lock' in store.files else hold(f'{folder}.lock')
+    lock = store.files.pop('lock') if 'lock' in store.files else hold(f'{folder}.lock')
     make_own(folder)
     return lock
 
@@ -95,9 +94,9 @@ def begin(holder: Holder) -> None:
     holder.is_active = is_active(options.is_standby, before.get('role', ''), bool(holder.line.files))
     holder.why, holder.was_up = str(how.value), how in (Beginning.REPLACED, Beginning.KILLED)
     if version := version_left(holder, how):
-        holder.versions.follows(version)
+        holder.versions.switch_to(version)
     if how is Beginning.REPLACED:
-        replaced(holder)
+        resume_replaced(holder)
     elif how is Beginning.KILLED:
         holder.silent -= silence_of(log)
         holder.lost = LOST if has_died(holder.folder) else ''
@@ -109,29 +108,23 @@ def begin(holder: Holder) -> None:
             holder.line.since = before.get('opened', holder.line.since)
     elif how is Beginning.SAVED:
         load(holder)
+        if holder.status is not None:
+            return
     if not holder.is_active:
         give_log(holder)
-    close_rest(holder)
+    while store.files:                      # (what was given, and nobody has taken)
+        os.close(store.files.popitem()[1])
     holder.listen()                         # (before it is known: who knows it may ask)
     if not holder.is_active:
-        holder.waits('it does not have the trunk')
+        holder.report_waiting('it does not have the trunk')
     holder.publish()
-
-
-def plain_in(path: str) -> dict[str, Any]:
-    """What a file of JSON has; nothing if there is none."""
-    try:
-        with open(path, 'rb') as file:
-            return dict(json.load(file))
-    except (OSError, ValueError, TypeError):
-        return {}
 
 
 def version_left(holder: Holder, how: Beginning) -> Version | None:
     """That of the holder before this one; None if it is not known, or there was none."""
     files = holder.store.files
     if {'program', 'tried'} <= files.keys():
-        return Version(files['program'], files['tried'])
+        return Version(files.pop('program'), files.pop('tried'))
     if how is Beginning.KILLED:
         try:
             found = tried_in(plain_in(f'{holder.folder}/tried'))
@@ -153,10 +146,10 @@ def watcher_of(options: Options, store: Store, loop: Loop) -> WatcherChild | Non
     return watcher
 
 
-def replaced(holder: Holder) -> None:
+def resume_replaced(holder: Holder) -> None:
     """This process was another holder, whose child and descriptors it has."""
     was, files = holder.store.was, holder.store.files
-    holder.program = HeldProgram(was['child'], holder.loop, files['leash'], files['said'])
+    holder.program = HeldProgram(was['child'], holder.loop, files.pop('leash'), files.pop('said'))
     holder.since = was['since']
     holder.line.take_up(was['line'])
     log_line(Severity.NOTICE, f'{holder.why}: program {was["child"]} goes on')
@@ -173,20 +166,6 @@ def has_died(folder: str) -> bool:
 
 def load(holder: Holder) -> None:
     """Begins with the state that was saved."""
-    try:
-        found = Job({'what': 'load', 'state': holder.options.state, 'log': f'{holder.folder}/log'}).wait()
-    except OSError as fault:
-        found = {'later': words_of_fault(fault)}
-    if why := found.get('refused') or found.get('later'):
+    asked = {'what': 'load', 'state': holder.options.state, 'log': f'{holder.folder}/log'}
+    if why := why_not(Job(asked).wait()):
         finish(holder, f'the state is not loaded: {why}', 1)
-
-
-def close_rest(holder: Holder) -> None:
-    """Closes what was given and is not used."""
-    its = {*holder.descriptors_to_store().values(), *holder.line.files.values(), holder.lock}
-    program = holder.program
-    if program:
-        its |= {program.leash, program.said}
-    for name, file in holder.store.files.items():
-        if file not in its and not name.startswith(SOCKETS):
-            os.close(file)

@@ -171,24 +171,19 @@ def line_of(asked: Mapping[str, str], program: str, folder: str) -> LineWants:
         raise ValueError('--clear is for a device that keeps slot 0; --satop has all 32 slots')
     path, reads, writes = asked['unix'], asked['in'], asked['out']
     place = host_and_port(asked['tcp']) if asked['tcp'] else None
-    blocks, is_clear = blocks_of(asked['blocks'] or '16,16'), bool(asked['clear'])
+    if asked['blocks']:
+        from .. import dahdi                        # (which a card's line loads in any case)
+        dahdi.blocks_of(asked['blocks'])
 
     def opens() -> Stream:
         if path or place:
             return open_tcp(*place) if place else open_unix(path)
         from ..card_opening import open_device      # (who has the descriptors already does without)
-        from ..dahdi import Blocks
-        return open_device(reads, writes, Blocks(*blocks).check(), is_clear)
+        from ..dahdi import blocks_of
+        return open_device(reads, writes, blocks_of(asked['blocks'] or '16,16'), bool(asked['clear']))
     trunk = asked['satop'] or path or asked['tcp'] or (reads if reads == writes else f'{reads} {writes}')
     return LineWants(trunk, opens, satop_of(asked['satop']), bool(asked['reopen']), bool(asked['crc4']),
                      program, folder)
-
-
-def blocks_of(text: str) -> tuple[int, int]:
-    frames, _, buffers = text.partition(',')
-    if not (frames.isdecimal() and buffers.isdecimal() and 1 <= int(frames) <= 64 and 2 <= int(buffers) <= 32):
-        raise ValueError('--blocks is FRAMES,N: 1 to 64 frames, 2 to 32 blocks')
-    return int(frames), int(buffers)
 
 
 def satop_of(text: str) -> tuple[str, ...]:

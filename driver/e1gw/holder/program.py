@@ -10,8 +10,9 @@ import socket
 import struct
 from contextlib import suppress
 from math import inf
-from typing import Callable, NamedTuple, Sequence
+from typing import Callable, Iterable, NamedTuple, Sequence
 
+from e1gw_common.writers import put_file
 from ..holder_state import fields_of
 from ..memory import in_memory
 from .decisions import EndFault
@@ -36,6 +37,12 @@ class ProgramWants(NamedTuple):
     said: int
     words: Sequence[str]
 
+    def command_line(self, config: int, end: int) -> list[str]:
+        sockets = ['--sockets', f'{self.sockets[0]}-{self.sockets[-1]}'] if self.sockets else []
+        return ['e1gw', 'trunk', '--config', f'/dev/fd/{config}', '--log', f'{self.folder}/log', '--tell',
+                f'{self.folder}/tell', '--control', f'{self.folder}/program', '--end', str(end), *sockets, '--totals',
+                *self.words]
+
 
 class Child:
     """A process that this one has started. `ends` is called once it has ended, until its status is taken."""
@@ -53,6 +60,10 @@ class Child:
 
     def kill(self) -> None:
         os.kill(self.pid, signal.SIGKILL)       # (its number is no other's before its status was taken)
+
+    def is_stopped(self) -> bool:
+        """Whether a signal has stopped it."""
+        return fields_of(self.pid)[:1] == ['T']
 
     def exit_status(self) -> int | None:
         """Its status once it has ended, negative for a signal. To be called no more then."""
@@ -85,7 +96,10 @@ class HeldProgram(Child):
             opened.append(config := in_memory(wants.config.encode()))
             program = executable(wants.program)
             opened += [program] * (program != wants.program)
-            return cls(spawned(wants, program, config, end), loop, leash, wants.said, deadline)
+            passed = end, config, program, *wants.sockets
+            files = *zip((*wants.line, wants.said), range(3)), *zip(passed, passed)
+            return cls(spawned(f'/proc/self/fd/{program}', wants.command_line(config, end), files), loop, leash,
+                       wants.said, deadline)
         except OSError:
             os.close(leash)
             raise
@@ -93,7 +107,7 @@ class HeldProgram(Child):
             for file in opened:
                 os.close(file)
 
-    def looks_up(self, control: str) -> bool:
+    def is_answering(self, control: str) -> bool:
         """Whether it, and no other process, answers at its control socket: it closes a connection that gives no record,
         and not the one before that, as it does at its end."""
         if self._lines is None:
@@ -124,10 +138,6 @@ class HeldProgram(Child):
         self.hangs = True
         super().kill()
 
-    def is_stopped(self) -> bool:
-        """Whether a signal has stopped it."""
-        return fields_of(self.pid)[:1] == ['T']
-
     def lines(self) -> list[str]:
         """The last that it has said."""
         size = os.fstat(self.said).st_size
@@ -145,16 +155,20 @@ class HeldProgram(Child):
                 os.close(file)
 
 
-def spawned(wants: ProgramWants, program: int, config: int, end: int) -> int:
-    """The number of the process. OSError if it cannot be started."""
-    sockets = ['--sockets', f'{wants.sockets[0]}-{wants.sockets[-1]}'] if wants.sockets else []
-    words = ['e1gw', 'trunk', '--config', f'/dev/fd/{config}', '--log', f'{wants.folder}/log', '--tell',
-             f'{wants.folder}/tell', '--control', f'{wants.folder}/program', '--end', str(end), *sockets, '--totals',
-             *wants.words]
-    passed = end, config, program, *wants.sockets
-    given = *zip((*wants.line, wants.said), range(3)), *zip(passed, passed)
-    return os.posix_spawn(f'/proc/self/fd/{program}', words, os.environ, setsid=True, setsigmask=[], setsigdef=[
-        signal.SIGPIPE], file_actions=[(os.POSIX_SPAWN_DUP2, file, number) for file, number in given])
+def spawned(program: str, words: list[str], files: Iterable[tuple[int, int]]) -> int:
+    """The number of a process that was started, with these descriptors as those of these numbers. OSError if it cannot
+    be."""
+    return os.posix_spawn(program, words, os.environ, setsid=True, setsigmask=[], setsigdef=[signal.SIGPIPE],
+                          file_actions=[(os.POSIX_SPAWN_DUP2, file, number) for file, number in files])
+
+
+def open_said(path: str) -> int:
+    """A new file for what a process says: there, or in memory if there is no room."""
+    try:
+        put_file(path, b'', 0o640)
+        return os.open(path, os.O_RDWR | os.O_APPEND | os.O_CLOEXEC)
+    except OSError:
+        return os.memfd_create('e1gw-said')
 
 
 def executable(program: int) -> int:

@@ -9,7 +9,7 @@ from typing import TYPE_CHECKING, Any, Mapping
 
 from e1gw_common.fault_words import words_of_fault
 from .decisions import EndReason
-from .job import Job
+from .job import Job, why_not
 from .journal import Severity, log_line
 from .lifecycle import finish, put_version
 from .requests import HolderRequest
@@ -34,7 +34,7 @@ class Reloads:
     def is_busy(self) -> bool:
         return self._job is not None
 
-    def signalled(self, number: int) -> None:
+    def on_signal(self, number: int) -> None:
         if number in (signal.SIGTERM, signal.SIGINT):
             self._holder.end(f'signal {number}')
         elif number == signal.SIGHUP:
@@ -44,13 +44,10 @@ class Reloads:
 
     # ---- a version ----
 
-    def first(self) -> None:
+    def try_first(self) -> None:
         """Tries the first version, where there is none before it."""
         if not self.is_busy:
-            try:
-                self._try(HolderRequest(None, 'begin'), None)
-            except OSError as fault:
-                self._has_no_version({'later': words_of_fault(fault)})
+            self._try(HolderRequest(None, 'begin'), None)
 
     def begin(self, request: HolderRequest) -> None:
         """Tries the program and the configuration of now; a program of them follows if they will do."""
@@ -60,25 +57,19 @@ class Reloads:
         if self.is_busy or not holder.versions.now:
             return request.refused('one is tried already', 'busy')
         holder.store.notify('RELOADING=1', f'MONOTONIC_USEC={time.monotonic_ns() // 1000}')
-        try:
-            self._try(request, holder.versions.now)
-        except OSError as fault:
-            self._refuse(request, words_of_fault(fault))
+        self._try(request, holder.versions.now)
 
     def _try(self, request: HolderRequest, before: Version | None) -> None:
-        """OSError if the program is not there, or nothing can be started."""
         options = self._holder.options
-        self._program = program = os.open(options.program, os.O_RDONLY | os.O_CLOEXEC)
+        try:
+            self._program = program = os.open(options.program, os.O_RDONLY | os.O_CLOEXEC)
+        except OSError as fault:
+            return self._refuse(request, {'later': words_of_fault(fault)})
         asked = {'what': 'try', 'program': program, 'config': options.config, 'senders': options.senders,
                  'wait': options.wait, 'log': self._log(), 'force': request.text.endswith(' force'),
                  'when_idle': request.text.endswith(' when-idle'),
                  'before': before.its._asdict() if before else None, 'program_before': before.program if before else -1}
-        try:
-            self._job = Job(asked, [program, before.program] if before else [program])
-        except OSError:
-            os.close(program)
-            raise
-        self._request = request
+        self._request, self._job = request, Job(asked, [program, before.program] if before else [program])
 
     def _log(self) -> str:
         """What is known of the trunk."""
@@ -99,9 +90,7 @@ class Reloads:
                 return self._keep_on(request, version)
             return self._switch_to(request, version, found.get('told', ''), now)
         os.close(self._program)
-        if request.word == 'begin':
-            return self._has_no_version(found)
-        self._refuse(request, str(found.get('refused') or found.get('later')))
+        self._refuse(request, found)
 
     def _keep_on(self, request: HolderRequest, version: Version) -> None:
         """No program follows for this version: what is new of it waits, or there is none now."""
@@ -123,41 +112,36 @@ class Reloads:
         if request.told:
             log_line(Severity.NOTICE, f'reload: {request.told}')
         if not holder.is_active or not (holder.program or holder.line.files and request.word == 'reload'):
-            holder.versions.stays()         # (there is nothing to go back to)
+            holder.versions.confirm()         # (there is nothing to go back to)
             return self._keep_on(request, version)
-        holder.versions.follows(version)
+        holder.versions.switch_to(version)
         holder.requests.append(request)
         if holder.program:
             holder.request_end(EndReason.RELOAD, now)
         holder.due = now
 
-    def _has_no_version(self, found: Mapping[str, Any]) -> None:
-        """What there is will not do for a first program. What may come back is waited for, if somebody wants that."""
-        holder, why = self._holder, str(found.get('refused') or found.get('later'))
+    def _refuse(self, request: HolderRequest, found: Mapping[str, Any]) -> None:
+        """The trunk goes on as it was. Without a version what may come back is waited for, if somebody wants that."""
+        holder, why = self._holder, why_not(found)
+        if request.word != 'begin':
+            log_line(Severity.ERROR, f'reload: refused, the trunk goes on as it was: {why}')
+            holder.store.notify('READY=1')
+            return request.refused(f'the trunk goes on as it was: {why}')
         if not holder.was_up and ('refused' in found or not holder.options.line.reopens):
             return finish(holder, why, 2 if 'refused' in found else 1)
         if why != self._said:
             log_line(Severity.ERROR, f'{why}; it is tried again')
-            holder.waits(why)
+            holder.report_waiting(why)
         self._said = why
         holder.due = time.monotonic() + AGAIN
-
-    def _refuse(self, request: HolderRequest, why: str) -> None:
-        log_line(Severity.ERROR, f'reload: refused, the trunk goes on as it was: {why}')
-        self._holder.store.notify('READY=1')
-        request.refused(f'the trunk goes on as it was: {why}')
 
     # ---- a holder ----
 
     def replace(self) -> None:
         """Another holder in place of this one, if it can begin. The program goes on meanwhile."""
-        try:
-            if not (why := self._why_not_replaced()):
-                self._job, self._request = Job({'what': 'begin'}), HolderRequest(None, 'replace')
-        except OSError as fault:
-            why = words_of_fault(fault)
-        if why:
-            log_line(Severity.ERROR, f'replace: refused: {why}')
+        if why := self._why_not_replaced():
+            return log_line(Severity.ERROR, f'replace: refused: {why}')
+        self._job, self._request = Job({'what': 'begin'}), HolderRequest(None, 'replace')
 
     def _why_not_replaced(self) -> str:
         program = self._holder.program
@@ -167,10 +151,10 @@ class Reloads:
 
     def _become_next(self, found: Mapping[str, Any]) -> None:
         holder, program = self._holder, self._holder.program
-        why = str(found.get('refused') or found.get('later') or '') or self._why_not_replaced()
+        why = why_not(found) or self._why_not_replaced()
         if why or not program:
             return log_line(Severity.ERROR, f'replace: refused: {why}')
-        holder.versions.stays()             # (its trial ends here)
+        holder.versions.confirm()             # (its trial ends here)
         holder.publish()
         files = {**holder.descriptors_to_store(), **holder.line.files, 'leash': program.leash, 'said': program.said,
                  'lock': holder.lock}

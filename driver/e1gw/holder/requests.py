@@ -6,6 +6,7 @@ import socket
 from contextlib import suppress
 from typing import Callable
 
+from e1gw_common.unix_listener import unix_listener
 from .loop import Loop
 
 MOST_OCTETS, MOST_CLIENTS = 64, 8
@@ -46,17 +47,12 @@ class Door:
         self._clients = dict[int, tuple[socket.socket, bytearray]]()
 
     def open_at(self, path: str) -> None:
-        """Listens there, if it does not. OSError if it cannot."""
+        """Listens there, if it does not. OSError or CannotListen if it cannot."""
         if self._line and path == self._path and os.path.lexists(path):
             return
         self.close()
-        with suppress(FileNotFoundError):
-            os.unlink(path)
-        self._line, self._path = socket.socket(socket.AF_UNIX), path
+        self._line, self._path = unix_listener(path, 0o600, None), path
         self._line.setblocking(False)
-        self._line.bind(path)
-        os.chmod(path, 0o600)
-        self._line.listen(MOST_CLIENTS)
         self._loop.watch(self._line.fileno(), self._accept)
 
     def close(self) -> None:

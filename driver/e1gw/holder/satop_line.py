@@ -5,21 +5,20 @@ from __future__ import annotations
 
 import json
 import os
-import signal
 import socket
 import time
 from contextlib import contextmanager, suppress
 from typing import Any, Iterator, Mapping
 
+from e1gw_common.addresses import host_and_port
 from e1gw_common.writers import put_file
-from ..holder_state import fields_of
 from ..satop_numbers import ENDS, begun_in, lines_in, number_of_now
 from .decisions import Openings
 from .journal import Severity, log_line
 from .line import HeldLine
 from .loop import Loop
 from .options import LineWants
-from .program import Child, end_words
+from .program import Child, end_words, open_said, spawned
 
 MULTIFRAME = 512
 ONES = b'\xff' * 2 * MULTIFRAME         # behind which frame alignment is looked for again
@@ -33,7 +32,7 @@ class SatopLine(HeldLine):
 
     ends = 'near', 'far'
 
-    def __init__(self, options: LineWants, files: Mapping[str, int], loop: Loop) -> None:
+    def __init__(self, options: LineWants, files: dict[str, int], loop: Loop) -> None:
         self._words = list[str]()       # of the process: both ends as addresses, and options
         self._child: Child | None = None
         self._restarts, self._why, self._lacked = Openings(), '', False
@@ -62,17 +61,17 @@ class SatopLine(HeldLine):
 
     def open_files(self) -> Mapping[str, int]:
         """Looks both ends up, unless that is known, and makes the pair."""
-        from ..satop import addresses_of, ends_of
+        from ..satop import addresses_of
         before = begun_in(self._path)
         near, far, *words = self.options.satop
         known = before.get('words', []) if before.get('asked') == [*self.options.satop] else []
-        self._words = known or [*addresses_of(*ends_of(f'{near},{far}')), *words]
+        self._words = known or [*addresses_of(host_and_port(near), host_and_port(far)), *words]
         pair = socket.socketpair()
         pair[0].setblocking(False)
         return {self.reads: pair[0].detach(), self.writes: pair[1].detach()}
 
-    def is_open(self) -> None:
-        super().is_open()
+    def on_open(self) -> None:
+        super().on_open()
         self._why = ''
         if not self._child and self._words:
             self._start(time.monotonic())
@@ -82,26 +81,19 @@ class SatopLine(HeldLine):
         from ..satop import can_send
         number = self._next_number()
         self._lacked, self._restarts = not can_send(self._words), self._restarts.with_one(now)
+        said, far = open_said(self._path), self.files[self.writes]
+        begun = {'asked': [*self.options.satop], 'words': self._words, 'first': number}
+        with suppress(OSError):
+            put_file(f'{self._path}{ENDS}', json.dumps(begun).encode(), 0o640)
         try:
-            put_file(self._path, b'', 0o640)
-            put_file(f'{self._path}{ENDS}', self._text(number).encode(), 0o640)
-            said = os.open(self._path, os.O_RDWR | os.O_APPEND | os.O_CLOEXEC)
-        except OSError:
-            said = os.memfd_create('e1gw-satop')
-        try:
-            far = self.files[self.writes]
-            self._child = Child(os.posix_spawn(
-                self.options.program, ['e1gw', 'satop', *self._words, '--sequence', str(number)], os.environ,
-                file_actions=[(os.POSIX_SPAWN_DUP2, file, to) for to, file in enumerate((far, far, said))],
-                setsid=True, setsigmask=[], setsigdef=[signal.SIGPIPE]), self.loop, self._on_exit)
+            pid = spawned(self.options.program, ['e1gw', 'satop', *self._words, '--sequence', str(number)],
+                          zip((far, far, said), range(3)))
+            self._child = Child(pid, self.loop, self._on_exit)
         except OSError as fault:
             log_line(Severity.ERROR, f'e1gw satop cannot be started: {fault.strerror}')
             self._restarts = self._restarts.with_end(now)
         finally:
             os.close(said)
-
-    def _text(self, number: int) -> str:
-        return json.dumps({'asked': [*self.options.satop], 'words': self._words, 'first': number})
 
     def _next_number(self) -> int:
         """With which the process begins: as was said, or behind those of the one before it."""
@@ -117,7 +109,7 @@ class SatopLine(HeldLine):
         if self._ones_due and now >= self._ones_due:
             self._ones_due = 0.0
             give(self.files[self.reads], ONES)
-        if self._child and fields_of(self._child.pid)[:1] == ['T']:
+        if self._child and self._child.is_stopped():
             self._child.kill()
         elif not self._child and not self._why and (now >= self._restarts.due or self._lacked and self._can_send()):
             self._restart(now)

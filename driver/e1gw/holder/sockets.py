@@ -36,9 +36,9 @@ def bind_socket(host: str, port: int) -> int:
 class HeldSockets:
     """Those that are held, and why circuits lack one."""
 
-    def __init__(self, given: Mapping[str, int]) -> None:
-        """`given` are descriptors of the holder before this one, by their names."""
-        self._held = {address_in(name): file for name, file in given.items() if name.startswith(NAME)}
+    def __init__(self, given: dict[str, int]) -> None:
+        """It takes its own from those of the holder before this one, `given` by their names."""
+        self._held = {address_in(name): given.pop(name) for name in [*given] if name.startswith(NAME)}
         self.lacking = dict[int, str]()
 
     @property

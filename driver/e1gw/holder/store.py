@@ -22,8 +22,8 @@ Identity = tuple[int, int]
 
 
 class Store:
-    """systemd, if it listens, and what it keeps. `files` were given to this process, and `was` is what the process has
-    noted that became this one. Nothing here waits but `forget`."""
+    """systemd, if it listens, and what it keeps. `files` were given to this process, until they are taken; `was` is
+    what the process has noted that became this one. Nothing here waits but `forget`."""
 
     def __init__(self) -> None:
         self._path = os.environ.get('NOTIFY_SOCKET', '').replace('@', '\0', 1)

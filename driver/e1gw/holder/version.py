@@ -72,7 +72,7 @@ class Versions:
         self.now, self.before = now, None       # type: Version | None, Version | None
         self.trial: Trial | None = None
 
-    def follows(self, version: Version) -> None:
+    def switch_to(self, version: Version) -> None:
         """This one follows. It is on trial, if one is before it."""
         if self.before:
             self.before.close()
@@ -85,7 +85,7 @@ class Versions:
             self.now.close()
         self.now = version
 
-    def stays(self) -> None:
+    def confirm(self) -> None:
         """The version of now has come to stay."""
         if self.before:
             self.before.close()
@@ -97,9 +97,9 @@ class Versions:
             self.now.close()
             self.now, self.before, self.trial = self.before, None, None
 
-    def is_up(self, now: float) -> None:
+    def on_up(self, now: float) -> None:
         """A program of the version of now carries the trunk."""
-        self.trial = self.trial and self.trial.is_up(now)
+        self.trial = self.trial and self.trial.with_program_up(now)
 
     def stored_version(self) -> Version | None:
         """The one with which the next holder goes on: one that was never up is for none."""

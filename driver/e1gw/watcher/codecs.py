@@ -27,7 +27,7 @@ class CodecWatch:
         self.given = dict[int, int]()           # (see there)
         self._state, self._give, self._is_busy, self._note, self._tasks = state, give, is_busy, note, Tasks()
 
-    def was_given(self, circuit: int) -> None:
+    def on_given(self, circuit: int) -> None:
         """A command has given one to this circuit."""
         line = self._state.lines[circuit]
         if line.state not in IN_CALL:

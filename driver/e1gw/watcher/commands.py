@@ -140,12 +140,12 @@ class CommandServer:
             case ['block' | 'unblock' as name, word, 'auto']:
                 return await self._obey_circuit(name, [word])
             case ['quit']:
-                return (await self._trunk.trunk.is_ending()).lines('quit')
+                return (await self._trunk.trunk.request_end()).lines('quit')
             case ['codec', *rest]:
                 return await self._obey_codec(rest)
             case [name, *rest] if name in COMMANDS:
                 return await self._obey_circuit(name, rest)
-        return refused(f'no such command; there are {", ".join(COMMANDS)}, codec, status, events, on-loss, role, '
+        return refused(f'no such command; there are {", ".join(COMMANDS)}, codec, status, events, role, '
                        'promote, demote, move, reload, quit and help').lines(words[0][:40])
 
     async def _obey_block(self, name: str, word: str, *now: str) -> str:
@@ -189,7 +189,7 @@ class CommandServer:
         record = codec_record(circuit, CODECS[words[1]], int(words[2]))
         answer = await trunk.command(record, circuit, ' '.join(['codec', *words[1:]]))
         if answer.is_done:
-            trunk.codecs.was_given(circuit)
+            trunk.codecs.on_given(circuit)
         return answer.lines(front)
 
 

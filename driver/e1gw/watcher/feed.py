@@ -46,7 +46,7 @@ class FeedRefused(Exception):
     """Why a feed is not followed."""
 
 
-def configured(path: str) -> tuple[str, dict[str, Any]]:
+def configured(path: str) -> tuple[str, dict[str, object]]:
     """The law of a configuration, and its circuits by their numbers, without what may differ elsewhere."""
     with open(path, 'rb') as file:
         tables = tomllib.load(file)
@@ -62,7 +62,7 @@ class FeedHead:
     octets each has, else 0; and the length of the state."""
 
     law: str
-    circuits: dict[str, Any]
+    circuits: dict[str, object]
     program: int
     place: int
     octets: int
@@ -163,7 +163,7 @@ class FeedServer:
                 while not leaves.done() and (now := time.monotonic()) < self._said + PATIENCE:
                     has_ended = self._trunk.state.program != program
                     has_room = writer.transport.get_write_buffer_size() < MOST_PIECE
-                    if has_room and not self._goes_on(log, writer, now) and has_ended:
+                    if has_room and not self._send_news(log, writer, now) and has_ended:
                         return await self._finish(writer, leaves)
                     if log.is_overtaken():
                         raise EOFError('it is too far behind')
@@ -191,7 +191,7 @@ class FeedServer:
             writer.write(PIECE.pack(0.0, BLOCKS) + LENGTH.pack(bits))
             self._said_blocks = bits
 
-    def _goes_on(self, log: FolderReader, writer: asyncio.StreamWriter, now: float) -> bool:
+    def _send_news(self, log: FolderReader, writer: asyncio.StreamWriter, now: float) -> bool:
         """Sends what the log has now; whether that is anything. EOFError if a part of it was written over."""
         self._say_blocks(writer)
         news = log.look()

@@ -122,11 +122,11 @@ class HeldTrunk(WatchedTrunk):
         self._reader: LogReader
         self.pair: TrunkPair | None = None      # of a trunk that two machines have
 
-    def reads(self, reader: LogReader) -> None:
+    def set_reader(self, reader: LogReader) -> None:
         """This is what reads its log."""
         self._reader, reader.turned = reader, self._on_log_turn
 
-    def stands_with(self, pair: TrunkPair) -> None:
+    def set_pair(self, pair: TrunkPair) -> None:
         """Two machines have it."""
         self.pair = pair
 
@@ -140,7 +140,7 @@ class HeldTrunk(WatchedTrunk):
         """A few times a second: what the holder says, and the program."""
         with suppress(FileNotFoundError):
             self._look_at_holder()
-        self._reader.log.follows(self._reader.read)
+        self._reader.log.follow_next(self._reader.read)
         self._line.look()
         self._card.look(self.state.span)
 
@@ -155,7 +155,7 @@ class HeldTrunk(WatchedTrunk):
                 self._line = self._said_line(self._line.noted())
         state = self.state
         if state.program == self._lost and state.octets_lost:
-            self._reader.has_lost(self._begins[0] if self._begins else self._begun)
+            self._reader.on_loss(self._begins[0] if self._begins else self._begun)
         self._lost = 0 if state.program == self._lost else self._lost
         if state != self._told and state.interface == INTERFACE:
             before, self._told = self._told, state
@@ -169,7 +169,7 @@ class HeldTrunk(WatchedTrunk):
         """A state was read in the log. The first one of another program is that with which it has begun."""
         reader, pid = self._reader, logged_by(self._places.log)
         if pid and pid != self._pid:
-            reader.follows(False)
+            reader.on_next_program(False)
             reader.starts = (*reader.starts, (reader.octets, reader.log.state_written()))[-MOST_FOUND:]
             self._pid, self._lost, self._begins = pid, pid, []
             before, self._config = self._config, digest_of(self.config_octets())
@@ -185,7 +185,7 @@ class HeldTrunk(WatchedTrunk):
         if session != self._session:
             with connected(self._places.tell) as line:
                 told = await place_told(line)
-            reader.log.follows(reader.read)     # (its folder may have been made again)
+            reader.log.follow_next(reader.read)     # (its folder may have been made again)
             for _ in range(2):
                 reader.read()
             if reader.has_missed and not self._session:
@@ -269,7 +269,7 @@ class HeldTrunk(WatchedTrunk):
 
     # ---- what is asked ----
 
-    async def is_ending(self) -> CommandAnswer:
+    async def request_end(self) -> CommandAnswer:
         return await ask(self._places.hold, 'quit')
 
     async def reload(self, *how: str) -> CommandAnswer:

@@ -51,7 +51,7 @@ class TrunkPages:
         self._due, self._has_changed = 0.0, True
         self._last: TrunkTexts | None = None
 
-    def changed(self) -> None:
+    def mark_stale(self) -> None:
         """A change was told: what was made before it is old."""
         self._has_changed = True
 

@@ -25,10 +25,10 @@ class IdleReloads:
         """Whether it is to be asked, where the circuits that wait are in these states."""
         return now >= self.due and any(state not in IN_CALL for state in waiting)
 
-    def is_requested(self) -> IdleReloads:
+    def with_request(self) -> IdleReloads:
         return IdleReloads(inf)
 
-    def answered(self, now: float, is_done: bool) -> IdleReloads:
+    def with_answer(self, now: float, is_done: bool) -> IdleReloads:
         return IdleReloads(now + (RELOADED if is_done else REFUSED))
 
 
@@ -46,9 +46,9 @@ class IdleReloadWatch:
         """To be called now and then."""
         states = [self._state.lines[n].state for n in self.waiting()]
         if self._state.live and self._reloads.is_due(now, states):
-            self._reloads = self._reloads.is_requested()
+            self._reloads = self._reloads.with_request()
             self._tasks.begin(self._reload())
 
     async def _reload(self) -> None:
         answer = await self._trunk.reload('when-idle')
-        self._reloads = self._reloads.answered(time.monotonic(), answer.is_done)
+        self._reloads = self._reloads.with_answer(time.monotonic(), answer.is_done)

@@ -45,7 +45,8 @@ logger = logging.getLogger(__name__)
 
 def parser() -> argparse.ArgumentParser:
     """The options."""
-    words = Parser(NAME, description=__doc__, formatter_class=argparse.RawDescriptionHelpFormatter)
+    words = Parser(NAME, description=__doc__, usage=f'{NAME} --config FILE [OPTION..]', add_help=False,
+                   formatter_class=argparse.RawDescriptionHelpFormatter)
     add_options(words)
     return words
 
@@ -93,16 +94,16 @@ class Watcher:
                                         lambda event: watch.tell(event), note.held if note else None)
         wants = recording_of(asked, wait_of(state.words))
         self._reader = reader = LogReader(self._places.log, asked.gap / 1000, wants, self.note, trunk.config_octets)
-        trunk.reads(reader)
+        trunk.set_reader(reader)
         self._watch = watch = TrunkWatch(watched_of(asked, program), trunk)
         if note:
             self._take_up(note)
         reader.take_up(note.read if note else ReadingNote(), note.recording if note else None)
         watch.client.changed = self.note
-        reader.found, reader.told = watch.flowed, lambda: watch.client.lines.place
+        reader.found, reader.told = watch.on_clock_finding, lambda: watch.client.lines.place
         reader.took, reader.missed = watch.counts.take_records, watch.counts.skip
         if pair := open_pair(asked, trunk, watch.tell):
-            trunk.stands_with(pair)
+            trunk.set_pair(pair)
         return True
 
     def _make_folder(self) -> None:
@@ -118,8 +119,8 @@ class Watcher:
     def _take_up(self, note: WatchNote) -> None:
         """What was told is not told again."""
         watch = self._watch
-        watch.client.was_told(note.told)
-        watch.was_shown(note.shown)
+        watch.client.restore_told(note.told)
+        watch.restore_shown(note.shown)
         if note.calls:
             watch.take_up(note.calls)
         kept = watch.blocks.kept
@@ -196,6 +197,8 @@ async def watch_trunk(asked: argparse.Namespace) -> int:
             ending.set()
     with run_periodically(LOOK, lambda: notifier.tell('WATCHDOG=1'), 'the sign of life'), \
             run_periodically(LOOK, look_at_holder, 'the look'):
+        if not (holder or lock.take()):
+            logger.info('no trunk at %s: e1gw-trunk is waited for', places.folder)
         while not (lock.take() or ending.is_set()):
             await wait_any(LOOK, ending)
         watcher = Watcher(asked, places, lock, ending)

@@ -43,7 +43,7 @@ class OpenLog:
             self.files.close()
         self.files = self.reader = None
 
-    def follows(self, read: Callable[[], object]) -> None:
+    def follow_next(self, read: Callable[[], object]) -> None:
         """Another log that the folder has is read from now on, behind what is to be read of the one before."""
         if self.files and not self.files.are_in(self.folder):
             with suppress(OSError):
@@ -93,14 +93,14 @@ class OpenLog:
         try:
             found = reads(self.files)
         except OSError as fault:
-            self._has_failed(words_of_fault(fault))
+            self._reopen_log(words_of_fault(fault))
             return nothing
         if self._why:
             logger.log(NOTICE, 'the log is read again')
         self._why = ''
         return found
 
-    def _has_failed(self, why: str) -> None:
+    def _reopen_log(self, why: str) -> None:
         """A read has failed: the files are opened again, if they can be, and read from where they were taken."""
         if not self._why:
             logger.error('the log cannot be read: %s; it is tried again', why)

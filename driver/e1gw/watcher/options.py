@@ -26,46 +26,52 @@ def mode_of(text: str) -> int:
 
 
 def add_options(words: argparse.ArgumentParser) -> None:
-    """Those of e1gw-watch."""
+    """Those of e1gw-watch, in groups, the first of which is what one needs first."""
+    add_first(words.add_argument_group('What it needs, and what one wants first'))
+    add_calls(words.add_argument_group('Calls and reports'))
+    add_names(words.add_argument_group('Its name, files and socket'))
+    add_pair(words.add_argument_group('Two machines'))
+
+
+def add_first(words: argparse._ArgumentGroup) -> None:
+    """The configuration, and what shows and keeps the trunk."""
     words.add_argument('--config', metavar='FILE', required=True, help='the configuration, e1gw.toml(5)')
+    words.add_argument('--control', metavar='PATH', help='a Unix socket for commands, e1gw-ctl(1)')
+    words.add_argument('--http', type=checked(host_and_port), metavar='HOST:PORT',
+                       help='serves a page (/; /trunks), /metrics (Prometheus), /status (JSON)')
+    words.add_argument('--session', metavar='FILE', help='records all that the program receives, for e1gw replay and '
+                       'check')
+    words.add_argument('--keep', type=checked(seconds_of), metavar='TIME',
+                       help='--session is a folder for the last 30m, 1h, 2d, in twelve to 120 files')
+
+
+def add_calls(words: argparse._ArgumentGroup) -> None:
+    """What is written and drawn of calls, and what ends them."""
+    words.add_argument('--calls', metavar='FILE', help='a line of CSV for each call; ten files of 10 MiB are kept')
+    words.add_argument('--json', metavar='FILE', help='a line of JSON for each change; - is standard output')
+    words.add_argument('--picture', type=number(10, 3600, float), metavar='SECONDS',
+                       help='/picture shows the last seconds, 10 to 3600, of what --keep has; wants both')
+    words.add_argument('--on-loss', nargs='+', default=['keep'], metavar='WORD',
+                       help='keep, clear SECONDS, or block SECONDS: what is done with the calls when the last '
+                       'control client that asked for it is gone [default: keep]')
+    words.add_argument('--dark', type=number(0, 86_400, float), metavar='SECONDS',
+                       help='clears the calls of a trunk that has been in alarm for that long [default: never]')
+    words.add_argument('--gap', type=number(20, 10_000), default=100, metavar='MS',
+                       help='resynchronises the jitter buffers of calls if octets of MS milliseconds were lost '
+                       '[default: 100]')
+
+
+def add_names(words: argparse._ArgumentGroup) -> None:
+    """What it is called, and where its files are."""
     words.add_argument('--name', help='the name of the trunk in metrics and files [default: that of FILE]')
     words.add_argument('--program', metavar='E1GW', help='the program, for replays [default: that of this repository, '
                        'or e1gw]')
     words.add_argument('--folder', metavar='DIR', help=f'where the folder of the trunk is [default: RUNTIME_DIRECTORY, '
                        f'or {MEMORY}]')
-    add_reports(words.add_argument_group('control and reports'))
-    add_kept(words.add_argument_group('sessions and calls'))
-    add_pair(words.add_argument_group('two machines'))
-
-
-def add_reports(words: argparse._ArgumentGroup) -> None:
-    """Those of control and of reports."""
-    words.add_argument('--control', metavar='PATH', help='a Unix socket for commands, e1gw-ctl(1)')
     words.add_argument('--control-mode', type=checked(mode_of, 'a mode of a file, as 660'), default=0o660,
-                       metavar='MODE', help='its mode, in octal [default: 660]')
+                       metavar='MODE', help='the mode of --control, in octal [default: 660]')
     words.add_argument('--control-group', metavar='GROUP', help='its group')
-    words.add_argument('--on-loss', nargs='+', default=['keep'], metavar='WORD',
-                       help='keep, clear SECONDS, or block SECONDS: what is done with the calls when the last '
-                       'control client that asked for it is gone [default: keep]')
-    words.add_argument('--http', type=checked(host_and_port), metavar='HOST:PORT',
-                       help='serves a page (/; /trunks), /metrics (Prometheus), /status (JSON)')
-    words.add_argument('--json', metavar='FILE', help='a line of JSON for each change; - is standard output')
-    words.add_argument('--picture', type=number(10, 3600, float), metavar='SECONDS',
-                       help='/picture shows the last seconds, 10 to 3600, of what --keep has; wants both')
-
-
-def add_kept(words: argparse._ArgumentGroup) -> None:
-    """Those of what is kept of the trunk, and of calls."""
-    words.add_argument('--session', metavar='FILE', help='records all that the program receives, for e1gw replay and '
-                       'check')
-    words.add_argument('--keep', type=checked(seconds_of), metavar='TIME',
-                       help='--session is a folder for the last 30m, 1h, 2d, in twelve to 120 files')
-    words.add_argument('--gap', type=number(20, 10_000), default=100, metavar='MS',
-                       help='resynchronises the jitter buffers of calls if octets of MS milliseconds were lost '
-                       '[default: 100]')
-    words.add_argument('--calls', metavar='FILE', help='a line of CSV for each call; ten files of 10 MiB are kept')
-    words.add_argument('--dark', type=number(0, 86_400, float), metavar='SECONDS',
-                       help='clears the calls of a trunk that has been in alarm for that long [default: never]')
+    words.add_argument('-h', '--help', action='help', help='prints this')
 
 
 def add_pair(words: argparse._ArgumentGroup) -> None:

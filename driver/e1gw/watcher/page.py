@@ -21,7 +21,8 @@ from ..ctl_all import TrunkHere, TrunkLine
 from ..deaf import refused_words, why_call_deaf, words_of_call, words_of_row
 from ..events import ReadEvent
 from ..metrics import NOT_OPEN, codec_word, head_of, states_of
-from ..status import CircuitStatus, TrunkFiles, TrunkStatus
+from ..status import CircuitStatus, TrunkStatus
+from ..trunk_files import TrunkFiles
 
 
 class Look(StrEnum):
@@ -190,23 +191,30 @@ def waiting_page(seconds: float, most: float) -> bytes:
 HOST = '\0'             # in place of the host by which a reader has come
 
 
+def look_of_trunk(trunk: TrunkHere) -> Look:
+    """That of a trunk: BAD if it does not answer, or a line above its circuits tells of a fault."""
+    is_bad = any(line.is_bad for line in head_of(trunk.status)) if trunk.status else trunk.is_in_service
+    return Look.BAD if is_bad else Look.PLAIN
+
+
 def trunk_row(trunk: TrunkHere, here: str) -> str:
     """A trunk with its circuits, a square each, and where its page is, as a reader sees it who has come to `here`;
     nothing of one that serves no page."""
     status = trunk.status or TrunkStatus(files=TrunkFiles(http=('', 0)))
     if not status.files.http:
-        return trunk_row(TrunkHere(True, TrunkLine(trunk.line.name, state='serves no page (--http)')), here)
-    name, *cells = [escape(each) for each in trunk.line]
+        return trunk_row(TrunkHere(False, TrunkLine(trunk.line.name, state='serves no page (--http)')), here)
+    name, *cells, state = [escape(each) for each in trunk.line]
     host, port = status.files.http
     host = HOST if host in (here, '0.0.0.0', '::') else f'[{host}]' if ':' in host else host
     name = f'<a href="//{escape(host)}:{port}/">{name}</a>' if port else name
     lines = ''.join(square_of(status, row) for row in status.circuits)
-    return f'<tr><td>{name}</td><td>{lines}</td>{"".join(f"<td>{cell}</td>" for cell in reversed(cells))}</tr>'
+    rest = ''.join(f'<td>{cell}</td>' for cell in reversed(cells))
+    return f'<tr><td>{name}</td><td>{lines}</td><td class="{look_of_trunk(trunk)}">{state}</td>{rest}</tr>'
 
 
 def square_of(status: TrunkStatus, row: CircuitStatus) -> str:
     """A circuit, coloured by its state."""
-    state, look = escape(state_words(status, row)), look_of_circuit(status, row)
+    state, look = escape(state_words(status, row)), circuit_row(status, row).look
     return f'<i class="{look}" data-s="{state}" title="{row.line.circuit} {state}"></i>'
 
 

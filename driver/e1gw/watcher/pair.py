@@ -41,7 +41,7 @@ class TrunkPair:
         self._follows: asyncio.Task[None] | None = None         # by which it is fed
         self._change: asyncio.Task[CommandAnswer] | None = None           # what was asked for last
         self._word, self._has_carried, self._tasks = '', False, Tasks()
-        standby.is_handed, standby.carries, standby.blocks = self._is_handed, self._is_active, self._blocked
+        standby.on_handover, standby.carries, standby.blocks = self._on_handover, self._is_active, self._on_peer_block
 
     def start(self, host: str, port: int) -> None:
         """Begins to feed, and to follow the holder."""
@@ -71,28 +71,28 @@ class TrunkPair:
     def _follow_role(self) -> None:
         if not self._trunk.stands_by():
             if self._follows:
-                self._is_taken()
+                self._leave_standby()
             self._has_carried |= self._is_active()
         elif self._is_standby() and not self._follows:
-            self._knows_own()
+            self._keep_own_state()
             self._follows = asyncio.create_task(self._standby.run())
 
-    def _is_taken(self) -> None:
+    def _leave_standby(self) -> None:
         """Somebody else has said it to the holder."""
         assert self._follows
         self._follows.cancel()
         self._follows, fed = None, self._standby.fed
-        self._reads_on(fed)
+        self._switch_log(fed)
         self._standby.publish(None)
 
-    def _reads_on(self, fed: FedLog | None) -> None:
+    def _switch_log(self, fed: FedLog | None) -> None:
         """The next program begins with this log, or nobody knows with which."""
         if fed:
-            self._trunk.reader.begins_anew((fed.place, fed.octets))
+            self._trunk.reader.switch_log((fed.place, fed.octets))
         else:
-            self._trunk.reader.begins_anew()
+            self._trunk.reader.switch_log()
 
-    def _knows_own(self) -> None:
+    def _keep_own_state(self) -> None:
         """Nothing more is read of the log. What is known of the trunk is what this machine had itself, if it carried
         it."""
         reader, has_carried, self._has_carried = self._trunk.reader, self._has_carried, False
@@ -159,7 +159,7 @@ class TrunkPair:
             if standby.fed and (number := standby.fed.next_packet_number()) is not None:
                 words, told = f'take {number}', f'{told}, packet {number} next'
             logger.log(NOTICE, 'the trunk is taken: %s', told)
-            self._reads_on(standby.fed)
+            self._switch_log(standby.fed)
             if standby.fed:
                 standby.fed.unlock()
         answer = await self._ask_holder(words)
@@ -181,7 +181,7 @@ class TrunkPair:
             if not answer.is_done or self._feed.is_carried:
                 return answer
             logger.error('move: %s', NOT_TAKEN)
-            self._knows_own()
+            self._keep_own_state()
             answer = await self._take_trunk()
             return refused(NOT_TAKEN) if answer.is_done else answer
         finally:
@@ -198,7 +198,7 @@ class TrunkPair:
         finally:
             answer.cancel()
 
-    def _is_handed(self, takes: bool) -> None:
+    def _on_handover(self, takes: bool) -> None:
         """The other machine hands it over, or takes it back."""
         self._start_change('promote' if takes else 'demote')
 
@@ -217,7 +217,7 @@ class TrunkPair:
         return replace(its, feed_fault=standby.why or None,
                        differs=(*standby.fed.circuits,) if standby.fed else ()) if stands else its
 
-    def _blocked(self, circuits: list[int]) -> None:
+    def _on_peer_block(self, circuits: list[int]) -> None:
         """The operator has blocked these at the other machine."""
         kept = self._trunk.blocks()
         self._tasks.begin(kept.put(kept.now.replace_all(circuits)))

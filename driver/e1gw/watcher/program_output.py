@@ -99,9 +99,9 @@ class SaidLine:
             if line is not None:
                 self._take_line(line)
             elif self.crc4:
-                self.crc4.follows()
+                self.crc4.on_next_program()
             elif self.slots:
-                self.slots.follows()
+                self.slots.on_next_program()
         for line in self._satop.read_lines():
             if counts := counts_of(line or ''):
                 self._take_counts(counts)

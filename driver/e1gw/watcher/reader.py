@@ -130,24 +130,24 @@ class LogReader:
         self.log.close()
         return last
 
-    def begins_anew(self, read: tuple[int, int] = (-1, 0), is_loaded: bool = False) -> None:
+    def switch_log(self, read: tuple[int, int] = (-1, 0), is_loaded: bool = False) -> None:
         """Another log begins, or goes on where another machine was."""
         self.log.close()
         (self.log.place, self.octets), self.is_loaded, self._begun, self.rests = read, is_loaded, None, False
         self.first, self._found = self.octets, []
 
-    def follows(self, lost: bool) -> None:
+    def on_next_program(self, lost: bool) -> None:
         """Another program follows; the one before it may have lost what it had in hand. Another file of a ring begins
         with it: who knows how long nobody carried the trunk?"""
         self._lost += MOST_LOST * lost
         self._is_cut = True
 
-    def has_lost(self, octets: int) -> None:
+    def on_loss(self, octets: int) -> None:
         """The program before the one that has begun with this octet may have lost what it had in hand."""
         if self._recording and self._begun is not None:
             self._recording.slip(octets, MOST_LOST)
 
-    async def copied(self) -> None:
+    async def keep_older_pair(self) -> None:
         """Before a program starts, whose first state is written over the older pair: keeps that for what is to be told
         of it, and waits a moment until a recording has what is behind. (The one that could say what was not counted is
         no more.)"""
@@ -223,13 +223,13 @@ class LogReader:
                 self._recording.put(news.octets, self.log.place, self.octets)
             return
         if isinstance(news, LogBegun):
-            self._is_overtaken(news, octets_in(behind), written)
+            self._on_overtaken(news, octets_in(behind), written)
             self.missed()
         self.log.place = news.state.place
         self.turned()
         self._see_file(news.state, isinstance(news, LogBegun), octets_in(behind))
 
-    def _is_overtaken(self, news: LogBegun, behind: int, written: float) -> None:
+    def _on_overtaken(self, news: LogBegun, behind: int, written: float) -> None:
         """The reading begins at a state, perhaps behind what was not seen; these octets of the trunk are behind that,
         and were written up to then. (A log that has begun with a state that was kept is read from there on.)"""
         if news.missed:

@@ -94,7 +94,7 @@ class FedLog:
         self.place, self.octets = self.place + len(records), self.octets + trunk
         self._has_trunk |= trunk > 0
 
-    def is_all(self, at: float) -> None:
+    def mark_complete(self, at: float) -> None:
         """What was taken was all that the log had at that time of the other clock. A word of that may wait here, and
         the one that waited least tells how the clocks differ. So it does of octets, which wait for that word: the last
         of them came behind the word before."""
@@ -179,7 +179,7 @@ class TrunkStandby:
     def __init__(self, place: tuple[str, int], source: str, tls: Sequence[str], trunk: HeldTrunk, tell: Tell) -> None:
         self._place, self._source, self._tls, self._trunk = place, source, tls, trunk
         self._folder, self._tell, self._by = trunk.places().folder, tell, f'{place[0]}:{place[1]}'
-        self.is_handed: Callable[[bool], None] = lambda takes: None     # this machine is to carry the trunk, or no more
+        self.on_handover: Callable[[bool], None] = lambda takes: None    # this machine carries the trunk, or no more
         self.carries: Callable[[], bool] = lambda: False        # whether it does
         self.blocks: Callable[[list[int]], None] = lambda circuits: None    # the operator has blocked these there
         self._taking: asyncio.Task[None] | None = None          # what says so to the other machine
@@ -267,15 +267,15 @@ class TrunkStandby:
                     continue
                 fed.take(await reader.readexactly(max(0, length)))
             if at:
-                fed.is_all(at)
+                fed.mark_complete(at)
                 if fed is not self.fed:
                     self._replace_known(fed)
             if length == YOURS and fed is self.fed:
                 writer.write(MARK.pack(TAKES))
                 continue
             if length == GO:
-                self._taking = asyncio.create_task(self._says_so(reader, writer))
-                self.is_handed(True)
+                self._taking = asyncio.create_task(self._announce_takeover(reader, writer))
+                self.on_handover(True)
             if length < 0:
                 raise EOFError
             if at > said + SAYS:
@@ -288,7 +288,7 @@ class TrunkStandby:
             raise FeedRefused('a state of the feed is too long')
         return await reader.readexactly(length)
 
-    async def _says_so(self, reader: asyncio.StreamReader, writer: asyncio.StreamWriter) -> None:
+    async def _announce_takeover(self, reader: asyncio.StreamReader, writer: asyncio.StreamWriter) -> None:
         """Says that this machine takes the trunk until it carries it. It is given back if that lasts too long, or the
         other machine has taken it back, while this one stood still."""
         until, last = time.monotonic() + PATIENCE, asyncio.ensure_future(last_word(reader))
@@ -301,7 +301,7 @@ class TrunkStandby:
         if carries:
             writer.write(MARK.pack(CARRIES))
         else:
-            self.is_handed(False)
+            self.on_handover(False)
         last.cancel()
         writer.close()
 

@@ -54,7 +54,7 @@ class TellClient:
         self._trunk, self.tell = trunk, tell
         self._config = read_config(trunk.config_path())
         self.lines = TrunkState(self._config, report_failure(self._on_event, WATCH), counts, time.monotonic,
-                                report_failure(self._told_all, WATCH))
+                                report_failure(self._on_all_told, WATCH))
         self.calls = CallLog(name, self.lines.lines, counts, put, self._day)
         self.is_followed: Callable[[], bool] = lambda: False
         self.start = time.monotonic()
@@ -92,7 +92,7 @@ class TellClient:
             logger.warning('%.1f s of the trunk are not known: their calls may have no line',
                            (missed.first - missed.since) / OCTETS_A_SECOND)
         self._again = self.lines.replay_until(missed.first, lambda: time.monotonic() - self._lag())
-        self.calls.counted_by(self._again.counts)
+        self.calls.set_counts(self._again.counts)
         try:
             self._replay_missed(missed)
             self._is_caught_up = missed.is_complete() and missed.last >= last
@@ -101,7 +101,7 @@ class TellClient:
         finally:
             self._again = self.lines
         (self.lines.place, self._at), self._is_known, self.lines.known = self._until, True, True
-        self.calls.counted_by(self.lines.counts)
+        self.calls.set_counts(self.lines.counts)
         self.naming.look(self.lines.lines)
         self._note_calls()
 
@@ -111,10 +111,10 @@ class TellClient:
         again.take(alarms)
         again.known, again.live = self._is_known, self._is_known and missed.is_complete() and not missed.is_new
         again.take(state)
-        again.counts.go_on(self.lines.counts)
+        again.counts.resume(self.lines.counts)
         if not self._is_known:
             self.calls.life = self.naming.known(self.lines.lines)
-        self.calls.counts_on()
+        self.calls.on_counts_known()
         again.take(changes)
         self.lines.counts.take_causes(again.counts)
 
@@ -253,7 +253,7 @@ class TellClient:
         return ToldNote(stands, self._since, (*lines.alarms.values(), *lines.remote.values()),
                         (*lines.losses.values(),), self.flow)
 
-    def was_told(self, note: ToldNote) -> None:
+    def restore_told(self, note: ToldNote) -> None:
         """That is not told again."""
         self._stood, self._since, self.flow = note.stands, note.since, note.flow
         for its, told in zip((self.lines.alarms, self.lines.remote), (note.alarms[:2], note.alarms[2:])):
@@ -264,7 +264,7 @@ class TellClient:
         """What another service has to know of the calls."""
         return self.calls.note(self.lines.place, self.lines.begun, self._at, self.waiting()) if self._is_known else None
 
-    def _told_all(self) -> None:
+    def _on_all_told(self) -> None:
         self._is_known = self._has_changed = True
         self.naming.begin(self._session, self.lines.seizures, self.lines.lines, self._is_caught_up)
         self.set_connected('reports', True)

@@ -151,7 +151,7 @@ class TrunkState:
     def _command(self, circuit: str, command: str, code: str) -> None:
         line, given = self.lines[int(circuit)], Command(int(command))
         if int(code) == 0:
-            line.commanded(given)
+            line.count_command(given)
             self._led[line.circuit] = LEADS[given]
         self.commanded(command_record(line.circuit, given))
 
@@ -181,5 +181,5 @@ class TrunkState:
             line.unacknowledged += 1
         if line.role is Role.OUTGOING and before is State.IDLE and state in IN_CALL and not commanded:
             line.seizures += 1          # (of which nobody was told)
-        line.changed(before, self._clock())
+        line.count_change(before, self._clock())
         self.tell(LineChanged(line.circuit, line.role, before, state, self.place, None if self.live else True))

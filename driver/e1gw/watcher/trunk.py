@@ -109,7 +109,7 @@ class WatchedTrunk(ABC):
         """The octet of the trunk with which the program of now has begun."""
 
     @abstractmethod
-    async def is_ending(self) -> CommandAnswer:
+    async def request_end(self) -> CommandAnswer:
         """The end is asked for."""
 
     @abstractmethod

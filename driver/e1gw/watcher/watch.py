@@ -18,7 +18,7 @@ from e1gw_common.line_files import EventFile, has_line
 from e1gw_common.lines import Role, State
 from e1gw_common.report import json_line
 from e1gw_common.session import CIRCUITS, Codec, Command, codec_record, command_record
-from e1gw_common.tasks import Tasks, retry, run_periodically, report_failure, has_failed
+from e1gw_common.tasks import Tasks, retry, run_periodically, report_failure, log_failure
 from e1gw_common.unix_listener import CannotListen, unix_listener
 from e1gw_common.web import web_listener
 from ..calls import CallsNote
@@ -29,7 +29,8 @@ from ..deaf import DeafCalls
 from ..events import (LAST, Burst, CallsCleared, CommandGiven, Event, LineChanged, RateChanged, ReadEvent, ReadEvents,
                       Slip, WatchEnded, WrongRate)
 from ..resyncs import Resyncs
-from ..status import TrunkFiles, TrunkStatus
+from ..status import TrunkStatus
+from ..trunk_files import TrunkFiles
 from .commands import MOST_LINE, CommandServer
 from .connection import NoAnswer, ProgramConnection
 from .blocks import BlockWatch
@@ -95,7 +96,8 @@ class TrunkWatch:
         self._is_over = True                    # the trunk has ended, once this one does
         self.ended: dict[str, str | None] = dict.fromkeys(BESIDE)
         self._restarts = Resyncs(self.restart, self.tell)
-        self.counts, self._deaf = DatagramCounts(report_failure(self._restarts.counted, WATCH)), DeafCalls(self.tell)
+        self.counts = DatagramCounts(report_failure(self._restarts.count_answers, WATCH))
+        self._deaf = DeafCalls(self.tell)
         self.client = TellClient(trunk, wants.name, self.tell, self.counts, self._put_call)
         self._lines = self.client.lines
         self._program = ProgramConnection(lambda: trunk.places().control, self.client.set_connected, self.client.wake,
@@ -185,9 +187,9 @@ class TrunkWatch:
         commands = ((*words, count) for words, count in self._done.items())
         return ShownNote((*last,), (*alarms,), (*self._ended_calls,), self._deaf.causes, self._resyncs, (*commands,))
 
-    def was_shown(self, note: ShownNote) -> None:
+    def restore_shown(self, note: ShownNote) -> None:
         """Pages show it again."""
-        self._events.go_on((ReadEvent(*each) for each in note.last),
+        self._events.restore((ReadEvent(*each) for each in note.last),
                            {key: ReadEvent(words, at) for key, words, at in note.alarms})
         self._ended_calls.extend(note.ended)
         self._deaf.take_up(note.deaf)
@@ -220,12 +222,12 @@ class TrunkWatch:
         try:
             return self.client.calls.on_state_change(event) or None
         except Exception as fault:      # pylint: disable=broad-exception-caught
-            has_failed(WATCH, fault)
+            log_failure(WATCH, fault)
             return None
 
     def _show(self, event: Event) -> None:
         self._events.take(event, time.time())
-        self.pages.changed()
+        self.pages.mark_stale()
 
     def _tell_followers(self, event: Event) -> None:
         text = json_line(event, place=self.trunk.place())
@@ -234,7 +236,7 @@ class TrunkWatch:
         if self._json:
             self._json.put(text)
 
-    def flowed(self, finding: ClockFinding) -> None:
+    def on_clock_finding(self, finding: ClockFinding) -> None:
         """What was found of the flow: octets that were lost or came too early, or another rate."""
         if finding.what == 'rate':
             return self.tell(RateChanged(round(finding.value, 1)))
@@ -247,9 +249,9 @@ class TrunkWatch:
 
     def _note(self, what: str, why: str | None) -> None:
         """From any thread: something other than the calls has ended, or goes on."""
-        self._loop.call_soon_threadsafe(self.stands_beside, what, why)
+        self._loop.call_soon_threadsafe(self.set_ended, what, why)
 
-    def stands_beside(self, what: str, why: str | None) -> None:
+    def set_ended(self, what: str, why: str | None) -> None:
         """Why something other than the calls has ended, or that it goes on; they go on."""
         self.ended[what] = why
         if why:
