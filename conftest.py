@@ -1,5 +1,5 @@
 """How pytest runs the tests: `--program PROGRAM` is the one that they look at, and with another `--seed N` what they
-choose by chance is other. The last line is `N passed, M failed`."""
+choose by chance is other. A test that fails is named at once. The last line is `N passed, M failed`."""
 from __future__ import annotations
 
 import os
@@ -21,24 +21,30 @@ def pytest_addoption(parser: pytest.Parser) -> None:
 
 
 def pytest_configure(config: pytest.Config) -> None:
-    """What tests find around them, and the commands that they start: the program, the Python that this is, and a place
-    for what it makes of modules. (Those who run tests beside each other have it of who has started them.)"""
+    """What tests find around them, and the commands that they start: the program, the Python that this is, and where
+    what it makes of modules is kept. (Those who run tests beside each other have it of who has started them.)"""
     if 'E1GW_SEED' in os.environ:
         return
-    folder = tempfile.TemporaryDirectory(dir='/dev/shm' if os.path.isdir('/dev/shm') else None)
-    config.add_cleanup(folder.cleanup)
     program = os.path.realpath(config.option.program)
     if program.endswith('.unproved'):           # (its version would say so)
+        folder = tempfile.TemporaryDirectory(dir='/dev/shm' if os.path.isdir('/dev/shm') else None)
+        config.add_cleanup(folder.cleanup)
         program = shutil.copy(program, f'{folder.name}/e1gw')
-    sys.pycache_prefix = folder.name
-    os.environ |= {'E1GW': program, 'E1GW_SEED': str(config.option.seed), 'PYTHONPYCACHEPREFIX': folder.name,
+    sys.pycache_prefix = str(BUILT.parent / 'pycache')
+    os.environ |= {'E1GW': program, 'E1GW_SEED': str(config.option.seed), 'PYTHONPYCACHEPREFIX': sys.pycache_prefix,
                    'PATH': f'{os.path.dirname(sys.executable)}:{os.environ.get("PATH", os.defpath)}'}
     os.environ.pop('PYTHONDONTWRITEBYTECODE', None)
 
 
-def pytest_collection_modifyitems(items: list[pytest.Item]) -> None:
-    """First those that have a time of their own, then larger modules: they take longer."""
-    items.sort(key=lambda item: (item.get_closest_marker('timeout') is None, -item.path.stat().st_size))
+def pytest_collection_modifyitems(config: pytest.Config, items: list[pytest.Item]) -> None:
+    """First those that have a time of their own, then larger modules: they take longer. Who wants the first that fails
+    alone (-x) has given them in another order."""
+    if config.option.maxfail != 1:
+        items.sort(key=lambda item: (item.get_closest_marker('timeout') is None, -item.path.stat().st_size))
+
+
+def pytest_report_teststatus(report: pytest.TestReport) -> tuple[str, str, str] | None:
+    return ('failed', f'\n{report.nodeid}\n', 'FAILED') if report.failed and report.when == 'call' else None
 
 
 def pytest_unconfigure(config: pytest.Config) -> None:

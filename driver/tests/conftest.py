@@ -1,5 +1,10 @@
-"""What comes before each of these tests."""
+"""What comes before these tests, and before each of them."""
 import gc
+
+
+def pytest_collection_finish() -> None:
+    """What all modules hold is not looked over again."""
+    gc.freeze()
 
 
 def pytest_runtest_setup() -> None:

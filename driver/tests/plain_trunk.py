@@ -53,7 +53,7 @@ class PlainTrunk(WatchedTrunk):
     def start_octet(self) -> int:
         return self.first
 
-    async def is_ending(self) -> CommandAnswer:
+    async def request_end(self) -> CommandAnswer:
         return DONE
 
     async def reload(self, *how: str) -> CommandAnswer:

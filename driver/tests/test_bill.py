@@ -276,7 +276,7 @@ class BilledTrunk:
 
     def starts(self) -> None:
         """Another program goes on from the log."""
-        now(self.trunk.reader.copied())
+        now(self.trunk.reader.keep_older_pair())
         self.note()
         self.unheard += 1
         self.program = Program(self.trunk.reader.octets, next(self.pids))

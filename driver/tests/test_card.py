@@ -45,8 +45,6 @@ class FakeChannel(DahdiChannel):
             return at(octets, (0, 1), (4, 3), (8, self.place), (12, self.signalling))
         if request is Request.SPAN_STATUS:
             return at(octets, (0, 3), (64, self.alarms), (76, 5), (108, 7), (112, 9), (124, self.channels))
-        if request is Request.GET_BUFFERS:
-            return at(octets, (8, 8), (12, 496))
         if request is Request.GET_EVENT:
             return NUMBER.pack(self.events.pop(0) if self.events else 0)
         self.asked.append((request.name, octets))
@@ -63,7 +61,7 @@ class RequestTests(unittest.TestCase):
     def test_numbers(self) -> None:
         self.assertEqual({each.name: int(each) for each in Request}, {
             'GET_PARAMETERS': 0xc088da05, 'GET_EVENT': 0x8004da08, 'SPAN_STATUS': 0xc13ada0a,
-            'GET_BUFFERS': 0x8018da1b, 'SET_BUFFERS': 0x4018da1b, 'AUDIO_MODE': 0x4004da20})
+            'SET_BUFFERS': 0x4018da1b, 'AUDIO_MODE': 0x4004da20})
 
     def test_facts(self) -> None:
         """Each field from its offset in the header."""
@@ -105,10 +103,10 @@ class RequestTests(unittest.TestCase):
 
     def test_blocks(self) -> None:
         for frames, buffers in (16, 8), (64, 16), (1, 2), (32, 32):
-            self.assertEqual(Blocks(frames, buffers).check(), Blocks(frames, buffers))
-        for frames, buffers in (0, 8), (65, 8), (16, 1), (16, 33), (64, 17):
-            with self.assertRaises(ValueError):
-                Blocks(frames, buffers).check()
+            self.assertEqual(dahdi.blocks_of(f'{frames},{buffers}'), Blocks(frames, buffers))
+        for text in '0,8', '65,8', '16,1', '16,33', '64,17', '16', '16,x':
+            with self.assertRaisesRegex(ValueError, f'--blocks {text} is'):
+                dahdi.blocks_of(text)
 
 
 class SetUpTests(unittest.TestCase):
@@ -131,10 +129,14 @@ class SetUpTests(unittest.TestCase):
 
     def test_who_was_started_by_a_descriptor(self) -> None:
         """Has the name of its command line: that of the descriptor would be its number."""
-        with open('/bin/sleep', 'rb') as file, subprocess.Popen(
-                ['e1gw', '900'], executable=f'/proc/self/fd/{file.fileno()}', pass_fds=[file.fileno()]) as process:
-            self.assertEqual(name_of_process(process.pid), 'e1gw')
-            process.kill()
+        with open('/bin/cat', 'rb') as file, subprocess.Popen(
+                ['e1gw'], executable=f'/proc/self/fd/{file.fileno()}', pass_fds=[file.fileno()],
+                stdin=subprocess.PIPE, stdout=subprocess.PIPE, bufsize=0) as process:
+            assert process.stdin and process.stdout
+            with process.stdin:
+                process.stdin.write(b'.')
+                self.assertEqual(process.stdout.read(1), b'.')          # (from now on the kernel has its name)
+                self.assertEqual(name_of_process(process.pid), 'e1gw')
 
     def test_advice(self) -> None:
         """Of a device; a channel that is held names who holds it."""

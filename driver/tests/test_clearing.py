@@ -25,7 +25,7 @@ class ClearingTests(unittest.TestCase):
         for words in ('', 'keep 1', 'clear', 'seize 3', 'clear -0.1', 'clear 86400.1', 'clear nan', 'clear x',
                       'clear 3 alive', 'clear 3 alive 0.9', 'clear 3 alive 86401', 'clear 3 after 2', 'clear 3 4',
                       'block 3 alive 2 5'):
-            with self.subTest(words), self.assertRaises(ValueError):
+            with self.subTest(words), self.assertRaisesRegex(ValueError, f'^--on-loss {words} is not keep'):
                 on_loss_of(words.split())
 
     def test_an_outage(self) -> None:

@@ -36,7 +36,7 @@ class CodecsOverTests(unittest.TestCase):
         noted = mock.Mock()
         watch = CodecWatch(cast(Any, SimpleNamespace(lines=lines)), cast(Any, None), lambda n: False, noted)
         for n in lines:
-            watch.was_given(n)
+            watch.on_given(n)
         self.assertEqual((watch.given, noted.call_count), ({1: 1}, 1))
 
 
@@ -119,12 +119,12 @@ class IdleReloadTests(unittest.TestCase):
         call(world, 1)
         text = support.text_of(world.config)
         world.configure(text.replace('"pcma"', '"g726-32"').replace('payload = 8', 'payload = 96'))
-        self.assertEqual(world.ask('reload when-idle'), 'reload: circuits 2 are configured otherwise; circuits 1 are '
-                         'when their calls end\nreload: done')
+        self.assertEqual(world.ask('reload when-idle'), 'reload: circuits 2 are configured otherwise; circuits 1 '
+                         'change when their calls end\nreload: done')
         world.connected()
         world.until(lambda: rows() == [('answered', 'pcma'), ('idle', 'g726-32')])
         support.until(lambda: bool(world.known()['waiting'] == [1]))
-        self.assertIn('\nconfigured otherwise when their calls end (reload --when-idle): 1\n', world.ask('status'))
+        self.assertIn('\nchange to what is configured when their calls end: 1\n', world.ask('status'))
         os.kill(world.watcher(), signal.SIGKILL)
         world.connected()
         self.assertEqual(world.ask('clear 1'), 'clear 1: done')
@@ -141,7 +141,7 @@ class IdleReloadTests(unittest.TestCase):
         words = [sys.executable, '-B', support.launcher('ctl'), world.path('ctl'), *'codec 1 g726-32 96 save'.split()]
         done = subprocess.run(words, capture_output=True, text=True, check=False)
         self.assertEqual((done.stdout.splitlines(), done.returncode, done.stderr), (
-            ['codec 1: done', 'reload: circuits 1 are when their calls end', 'reload: done'], 0, ''))
+            ['codec 1: done', 'reload: circuits 1 change when their calls end', 'reload: done'], 0, ''))
         support.until(lambda: bool(world.known()['waiting'] == [1]))
         self.assertEqual(world.state(1), 'answered')
         self.assertEqual(world.ask('clear 1'), 'clear 1: done')

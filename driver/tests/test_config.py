@@ -109,7 +109,8 @@ class ConfigTests(ConfigCase):
                             (['--peer', '239.0.0.1'], 'circuit 1: peer_host 239.0.0.1 is a multicast address'),
                             (['--check', 'all.toml'], 'all.toml: circuit 1: peer_host 0.0.0.0 is the address of no'),
                             (['--tie', 'east'], '--tie needs --write'),
-                            (['--trunk', '65'], '1 to 64'), (['--check', 'none.toml'], 'none.toml: No such file'),
+                            (['--trunk', '65'], '--trunk: 65 is not 1 to 64'),
+                            (['--check', 'none.toml'], 'none.toml: No such file'),
                             (['--check', 'bad.toml'], 'bad.toml:2: codecc is not a key here')):
             with self.subTest(words=words):
                 status, said, fault = self.made(*words)

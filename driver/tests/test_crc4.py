@@ -53,7 +53,7 @@ class Crc4CountTests(unittest.TestCase):
         known.take(self.counts(988, 0, 0, 1, 0, 0))
         rows = ((self.counts(988, 0, 0, 1, 0, 0),), (nothing,), (nothing, self.counts(988, 0, 0, 1, 0, 0)), (nothing,))
         for counts in rows:
-            known.follows()
+            known.on_next_program()
             self.assertEqual([event for its in counts for event in known.take(its)], [])
         (lost,) = known.take(nothing)
         self.assertEqual(lost.words(), 'CRC multiframe alignment lost')
@@ -72,7 +72,7 @@ class SlotsTests(unittest.TestCase):
         self.assertTrue(known.status().silent)
         self.assertEqual(self.told(known, 'slots found 30', 'slots lost', 'slots found 30'), [FOUND, LOST, FOUND])
         self.assertFalse(known.status().silent)
-        known.follows()
+        known.on_next_program()
         self.assertTrue(known.status().silent)
         later = Slots()
         later.take_up(known.note())

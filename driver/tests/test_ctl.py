@@ -3,11 +3,14 @@ from __future__ import annotations
 
 import argparse
 import contextlib
+import errno
+import inspect
 import io
 import json
 import os
 import re
 import shutil
+import socket
 import sys
 import tarfile
 import tempfile
@@ -19,8 +22,9 @@ from unittest import mock
 from . import limits, support
 from .limits import LONG
 from .test_texts import STATUS
-from e1gw import ctl, ctl_all
+from e1gw import control_sockets, ctl, ctl_all
 from e1gw_common.call_lines import FIELDS, CallLine, csv_line
+from e1gw_common.fault_words import group_of, words_of_fault
 from e1gw_common.plain import typed
 from e1gw.outages import FIELDS as FIELDS_OF_OUTAGES
 from e1gw.status import TrunkStatus
@@ -43,17 +47,22 @@ class CtlWordTests(unittest.TestCase):
             self.assertEqual(ctl.circuits_of(word), [word])
 
     def test_limits(self) -> None:
-        """A command has longer than the watcher waits for what it asks."""
-        last = limits.USUAL
-        self.assertGreater(ctl_all.LIMITS['reload'], last['watcher.ask_holder.PATIENCE'])
+        """A command has as long as the manual says, which is longer than the watcher waits for what it asks."""
+        has, last = control_sockets.LIMITS, limits.USUAL
+        usual = inspect.signature(ctl.main).parameters['patience'].default
+        self.assertIn(f'{usual:g} s, {has["reload"]:g} s for reload, {has["promote"]:g} s for promote, demote and move',
+                      support.text_of(f'{support.TOP}/dist/man/e1gw-ctl.1'))
+        self.assertGreater(usual, last['watcher.blocks.PATIENCE'])
+        self.assertGreater(has['reload'], last['watcher.ask_holder.PATIENCE'])
         for word in 'promote', 'demote', 'move':
-            self.assertGreater(ctl_all.LIMITS[word], last['watcher.pair.PATIENCE'] + last['watcher.feed.PATIENCE'])
+            self.assertEqual(has[word], has['promote'])
+            self.assertGreater(has[word], last['watcher.pair.PATIENCE'] + last['watcher.feed.PATIENCE'])
 
     def test_paths(self) -> None:
         """The name of a trunk, unless it has a / or is that of a socket here."""
         with tempfile.TemporaryDirectory() as folder, contextlib.chdir(folder), support.listening('west'):
             self.assertEqual([ctl.path_of(word) for word in ('west', 'east', './east', '/east')],
-                             ['west', f'{ctl_all.SOCKETS}/east/control', './east', '/east'])
+                             ['west', f'{control_sockets.SOCKETS}/east/control', './east', '/east'])
 
 
 class StandInTrunk:
@@ -94,7 +103,7 @@ class CtlAnswerCase(support.FolderCase):
     def setUp(self) -> None:
         super().setUp()
         for name, folder in (('SOCKETS', 'run'), ('UNITS', 'etc')):
-            for module in (ctl, ctl_all):
+            for module in (ctl, control_sockets):
                 patch = mock.patch.object(module, name, self.path(folder), create=True)
                 patch.start()
                 self.addCleanup(patch.stop)
@@ -172,21 +181,43 @@ class CtlAnswerTests(CtlAnswerCase):
     def test_trunks_that_do_not_answer(self) -> None:
         """Nobody is waited for longer than that: to be let in, or for an answer."""
         for trunk in self.trunks.values():
-            trunk.answers['seize 9'] = ''
+            trunk.answers |= {'seize 9': '', 'status json': ''}
         why = 'control: no answer within 0.05 s, it may still be done'
         status, told, _ = self.ctl('--all', 'seize', '9', patience=0.05)
         self.assertEqual((status, [line[-len(why):] for line in told]), (1, [why] * 2))
         status, told, said = self.ctl('west', 'seize', '9', patience=0.05)
         self.assertEqual((status, told, said[-len(why) - 1:]), (1, [], f'{why}\n'))
+        status, told, _ = self.ctl(patience=0.05)
+        self.assertEqual((status, [line.split()[1:] for line in told[1:]]), (1, [
+            ['does', 'not', 'answer:', f'{self.trunks[name].path}:', 'timed', 'out'] for name in ('east', 'west')]))
         with support.listening(self.path('full')), contextlib.ExitStack() as waiting:
             with self.assertRaises(BlockingIOError):
                 for _ in range(9):
-                    waiting.enter_context(ctl_all.connected(self.path('full'), 0.05))
+                    waiting.enter_context(control_sockets.connected(self.path('full'), 0.05))
+
+    def test_events_that_come_late(self) -> None:
+        """Who follows them waits for each as long as it takes."""
+        ours, trunk = socket.socketpair()
+        trunk.sendall(b'events: done\n\n')
+
+        def tell() -> None:
+            with trunk:
+                self.assertEqual(trunk.recv(100), b'events\n')
+                trunk.sendall(b'{"event": 1}\n')
+        with mock.patch.object(ctl, 'connected', return_value=ours):
+            threading.Timer(0.2, tell).start()
+            self.assertEqual(self.ctl('west', 'events', patience=0.05), (0, ['{"event": 1}'], ''))
+
+    def test_who_may_not_command(self) -> None:
+        """Is told the group that may."""
+        path = self.trunks['west'].path
+        fault = control_sockets.with_group(PermissionError(errno.EACCES, 'Permission denied'), path)
+        self.assertEqual(words_of_fault(fault), f'{path}: Permission denied; it is for the group {group_of(path)}')
 
     def test_what_takes_longer(self) -> None:
         for trunk in self.trunks.values():
             trunk.answers['reload'] = ''
-        with mock.patch.dict(ctl_all.LIMITS, reload=0.15):
+        with mock.patch.dict(control_sockets.LIMITS, reload=0.15):
             for words, told in (('--all reload', 'east: '), ('west reload', '')):
                 status, lines, said = self.ctl(*words.split(), patience=0.05)
                 self.assertEqual((status, 'no answer within 0.15 s' in ''.join([*lines, said])), (1, True), told)
@@ -271,7 +302,13 @@ class CtlOwnCommandTests(CtlAnswerCase):
                 self.trunks['west'].path, 'later')):
             missing = self.path('run/later/control')
             self.assertEqual(self.waited('later', 'wait', '9', 'blocked'), (
-                0, [f'later: nobody listens at {missing}', 'later: 9 blocked']))
+                0, [f'later: no trunk yet, here or at {missing}', 'later: 9 blocked']))
+            os.remove('later')
+            self.assertEqual(self.waited('./later', 'wait', '9', 'blocked'), (
+                0, ['./later: no trunk yet', './later: 9 blocked']))
+        support.listening(left := self.path('left')).close()
+        self.assertEqual(self.waited(left, 'wait', '9', 'blocked', '--for', '0'), (
+            3, [f'{left}: no trunk listens yet', 'not all are blocked after 0 s']))
         for line in 'status --for 3', 'wait 7', 'wait 7 unheard', 'wait 31 idle', 'wait':
             self.assertEqual(self.ctl('west', *line.split())[0], 2)
 

@@ -51,9 +51,9 @@ class DecisionTests(unittest.TestCase):
         fresh = IdleReloads()
         for states, is_due in ('', False), ('answered seized', False), ('answered idle', True):
             self.assertEqual(fresh.is_due(0.0, states.split()), is_due)
-        self.assertFalse(fresh.is_requested().is_due(1e9, ['idle']))
+        self.assertFalse(fresh.with_request().is_due(1e9, ['idle']))
         for is_done, seconds in ((True, 2.0), (False, 60.0)):
-            after = fresh.is_requested().answered(10.0, is_done)
+            after = fresh.with_request().with_answer(10.0, is_done)
             self.assertEqual([after.is_due(10.0 + each, ['idle']) for each in (seconds - 0.1, seconds)], [False, True])
 
     @mock.patch.object(flow, 'QUIET', limits.USUAL['watcher.flow.QUIET'])

@@ -123,11 +123,11 @@ class PlayedFrontEndTests(unittest.IsolatedAsyncioTestCase):
         self.end.line = self.trunk
         self.end.near = self.end.far = {1: self.trunk, 2: self.trunk}
 
-    async def sends(self, method: str, call: str = 'a') -> None:
+    async def sends(self, method: str, call: str = 'a', tag: str = '') -> None:
         """A message comes, and all that follows of it is done."""
         body = OFFER.format(port=4002, payload=8) * (method == 'INVITE')
         self.end.received(f'{method} sip:1@127.0.0.1 SIP/2.0\r\nFrom: <sip:a@127.0.0.1>;tag=a\r\n'
-                          f'To: <sip:1@127.0.0.1>\r\nCall-ID: {call}\r\nCSeq: 1 {method}\r\n\r\n{body}'.encode(),
+                          f'To: <sip:1@127.0.0.1>{tag}\r\nCall-ID: {call}\r\nCSeq: 1 {method}\r\n\r\n{body}'.encode(),
                           ('127.0.0.1', 5070))
         await self.done()
 
@@ -194,6 +194,16 @@ class PlayedFrontEndTests(unittest.IsolatedAsyncioTestCase):
         await self.sends('BYE')             # (which comes after all, of a call that has ended)
         self.assertEqual(self.trunk.said[-1], 'SIP/2.0 481 Call Does Not Exist')
         self.assertEqual(self.end.circuits[1].invite.head('Call-ID'), 'd')
+
+    async def test_an_invite_within_a_call(self) -> None:
+        """It is refused, and the call goes on; of one that has ended it begins no other one."""
+        await self.is_up()
+        await self.sends('INVITE', 'a', ';tag=1')
+        self.assertEqual(self.trunk.said[-1], 'SIP/2.0 488 Not Acceptable Here')
+        await self.sends('BYE')
+        await self.sends('INVITE', 'a', ';tag=1')
+        self.assertEqual(self.trunk.said[-1], 'SIP/2.0 481 Call Does Not Exist')
+        self.assertEqual(self.trunk.asked, ['codec 1 pcma 8 auto', 'seize 1', 'clear 1'])
 
     async def test_it_looks_each_second(self) -> None:
         self.end.end_silent = mock.Mock(side_effect=EOFError)

@@ -75,11 +75,11 @@ class FeedTests(support.LoopCase):
         runs = asyncio.create_task(its.run())
         self.addCleanup(runs.cancel)
 
-        def is_handed(takes: bool) -> None:
+        def on_handover(takes: bool) -> None:
             """It is fed no more, as of a machine that carries the trunk."""
             self.handed.append(takes)
             runs.cancel()
-        its.is_handed, its.blocks = is_handed, self.blocked.append
+        its.on_handover, its.blocks = on_handover, self.blocked.append
         return its
 
     async def fed(self, its: TrunkStandby) -> None:
@@ -345,15 +345,15 @@ class FedLogTests(support.FolderCase):
                 comes = int((word - 1000) / RECORD)
                 fed.take(record * (comes - given))
                 time.monotonic.return_value = word + 0.001 + 0.02 * chance.random()
-                fed.is_all(word - 77)
+                fed.mark_complete(word - 77)
                 given, last = comes, word
             time.monotonic.return_value = last + 0.03       # (the program has ended meanwhile)
             fed.take(record)
-            fed.is_all(last + 0.02 - 77)
+            fed.mark_complete(last + 0.02 - 77)
             self.assertAlmostEqual(fed.came, 1000 + (comes + 1) * RECORD, delta=0.004)
             for fresh in last + 5, last + 5.01:
                 time.monotonic.return_value = fresh + 0.01
-                fed.is_all(fresh - 77)
+                fed.mark_complete(fresh - 77)
                 fed.take(record)
             self.assertAlmostEqual(fed.came, last + 5, delta=0.011)
 
@@ -405,10 +405,10 @@ class StandbyTests(support.LoopCase):
         handed, reader, writer = list[bool](), asyncio.StreamReader(), mock.Mock()
         writer.is_closing.return_value = False
         its = self.standby()
-        its.is_handed, its.carries = handed.append, lambda: True
+        its.on_handover, its.carries = handed.append, lambda: True
         reader.feed_data(b''.join(PIECE.pack(0.0, word) for word in words))
         reader.feed_eof()
-        await its._says_so(reader, writer)
+        await its._announce_takeover(reader, writer)
         return float(MARK.unpack(writer.write.call_args.args[0])[0]), handed
 
     async def test_what_the_other_machine_says(self) -> None:

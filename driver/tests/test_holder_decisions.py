@@ -129,7 +129,7 @@ class OtherDecisionTests(unittest.TestCase):
 
     def test_trials(self) -> None:
         self.assertEqual(Trial().until, inf)
-        self.assertEqual(Trial().is_up(100.0).is_up(150.0), Trial(160.0))
+        self.assertEqual(Trial().with_program_up(100.0).with_program_up(150.0), Trial(160.0))
 
     def test_numbers_of_packets(self) -> None:
         """2048 kbit/s: a thousand packets of 256 octets a second."""

@@ -288,13 +288,13 @@ class VersionsTests(unittest.TestCase):
         versions = self.version()
         first, second = versions.now, self.version().now
         assert first and second
-        versions.follows(second)
+        versions.switch_to(second)
         self.assertEqual((versions.stored_version(), versions.addresses()), (first, {('127.0.0.1', 5000)}))
-        versions.is_up(10.0)
+        versions.on_up(10.0)
         self.assertEqual(versions.stored_version(), second)
         versions.roll_back()
         self.assertEqual((versions.stored_version(), versions.before, versions.trial), (first, None, None))
-        versions.stays()
+        versions.confirm()
         first.close()
 
 
@@ -513,9 +513,9 @@ class TurnTests(unittest.TestCase):
         for name in 'store', 'reloads', 'line', 'versions', 'program':
             setattr(holder, name, mock.Mock())
         holder.program.exit_status.return_value = -9
-        holder._look_at, holder._go_on, holder._bring_up, holder._is_opened = (
+        holder._look_at, holder._go_on, holder._bring_up, holder._on_opening_end = (
             functools.partial(getattr(Holder, name), holder)
-            for name in ('_look_at', '_go_on', '_bring_up', '_is_opened'))
+            for name in ('_look_at', '_go_on', '_bring_up', '_on_opening_end'))
         holder.line.files = {}
         holder.line.look.side_effect = lambda now: holder.line.files.update(line=1) or True
         ended = mock.Mock(side_effect=lambda held, *_: setattr(held, 'program', None))

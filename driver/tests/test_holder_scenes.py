@@ -479,3 +479,12 @@ class HolderStateTests(HolderCase):
         self.goes_on_all()
         self.keeper.terminate()
         self.keeper.wait(SECONDS)
+
+    def test_not_loaded(self) -> None:
+        """One line names the file and the reason."""
+        os.mkdir(self.path('state'))
+        self.options += '--state', self.path('state')
+        self.starts_holder()
+        self.assertEqual(self.keeper.wait(SECONDS), 1)
+        self.assertEqual(self.told(), f'e1gw-trunk: ends: the state is not loaded: {self.path("state")}: '
+                                      'Is a directory\n')

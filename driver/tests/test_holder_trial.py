@@ -26,6 +26,7 @@ class TrialTests(support.FolderCase):
         self.file = os.open(support.program(), os.O_RDONLY)
         self.addCleanup(os.close, self.file)
         self.config = self.write('trunk.toml', CONFIG)
+        self.enterContext(mock.patch.multiple('e1gw.holder.job', SECONDS=support.SECONDS, PATIENCE=support.SECONDS))
 
     def asked(self, **more: Any) -> dict[str, Any]:
         return {'what': 'try', 'program': self.file, 'config': self.config, 'senders': 'host', 'wait': 200,
@@ -68,6 +69,10 @@ class TrialTests(support.FolderCase):
         self.assertEqual(self.answer(), {'later': f'{self.config}: No such file or directory'})
         os.mkfifo(self.config)
         self.assertEqual(self.answer(), {'later': f'{self.config} is no file'})
+        self.config = path = self.write('no-program', CONFIG)
+        with open(path, 'rb') as file:
+            self.file = file.fileno()
+            self.assertEqual(self.answer(), {'later': f'{path}: Permission denied'})
 
     def test_a_name_that_is_not_found(self) -> None:
         """It may be later: a name server is away, or answers nothing."""
@@ -84,6 +89,8 @@ class TrialTests(support.FolderCase):
             self.assertEqual(Job({'what': 'try'}).wait(), {'later': 'it is not tried to its end'})
         with mock.patch.multiple('e1gw.holder.job', PYTHON='import time; time.sleep(900)', PATIENCE=0.2):
             self.assertEqual(Job({'what': 'try'}).wait(), {'later': 'it is not tried to its end'})
+        with mock.patch('os.posix_spawn', side_effect=OSError(11, 'Resource temporarily unavailable')):
+            self.assertEqual(Job({'what': 'try'}).wait(), {'later': 'Resource temporarily unavailable'})
 
     def test_states(self) -> None:
         """A log begins with one, and one is saved of a log; whole."""
@@ -138,9 +145,9 @@ class TrialTests(support.FolderCase):
             self.assertEqual([n for n in before.circuits if its['tried']['circuits'][n] == before.circuits[n]],
                              [*its['tried']['wait']] or ([1, 2, 3] if its['runs'] else []))
             return [*its['tried']['wait']], its['told'], its['changes'], its['runs']
-        coded, waits = text('g726-32', 'g726-32', 'pcma', prefill=160), 'circuits 1-2 are when their calls end'
+        coded, waits = text('g726-32', 'g726-32', 'pcma', prefill=160), 'circuits 1-2 change when their calls end'
         self.assertEqual(found(coded), ([1], 'it ends 1 calls (circuits 2)', 'circuits 2-3 are configured otherwise; '
-                                        'circuits 1 are when their calls end', False))
+                                        'circuits 1 change when their calls end', False))
         self.assertEqual(found(coded, when_idle=True), (
             [1, 2], '', f'circuits 3 are configured otherwise; {waits}', False))
         with self.assertRaisesRegex(trial.TrialRefused, 'wait for no call'):

@@ -23,11 +23,11 @@ class LineTests(unittest.TestCase):
         line, now = Line(3), 0.0
         line.begin(State.IDLE, now)
         for command in (Command.SEIZE, *[Command.ANSWER] * 3, Command.BLOCK):
-            line.commanded(command)
+            line.count_command(command)
         for state in (State.SEIZED, State.ACKED, State.ANSWERED, State.CLEAREDBACK, State.ANSWERED, State.RELEASING,
                       State.FAULT):
             now, before, line.state = now + 1.0, line.state, state
-            line.changed(before, now)
+            line.count_change(before, now)
         self.assertEqual((line.seizures, line.answers, line.faults, line.since, line.opened, line.open_for),
                          (1, 4, 1, 7.0, None, 4.0))
         its = line.status(9.25)
@@ -42,7 +42,7 @@ class LineTests(unittest.TestCase):
         self.assertEqual((line.opened, found.open, found.jitter_buffer_ms), (1.0, 1.5, 40.0))
         for now, (before, line.state) in enumerate(((State.ACKED, State.IDLE), (State.IDLE, State.ACKED),
                                                     (State.ACKED, State.ANSWERED)), 2):
-            line.changed(before, now)
+            line.count_change(before, now)
         self.assertEqual((line.seizures, line.answers, line.opened, line.open_for), (1, 0, 3, 1.0))
         line.sent, line.recognised = 0, 3
         self.assertEqual((line.status(2.5).sent, line.status(2.5).recognised, PAIRS[1], PAIRS[2]),

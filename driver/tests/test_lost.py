@@ -16,10 +16,11 @@ from . import support
 from .picture_made import configured, read_session, rtp
 from .properties import PropertyCase
 from .shown import ShownTables
+from .support import octets_in
 from .test_tell_lines import BEGIN, row
-from .test_trunk import aligned, call
+from .test_trunk import FOUR, aligned, call
 from .test_watch import TrunkWatchCase
-from .world import World
+from .world import World, config_of
 from e1gw_common.call_lines import CallLine, read_calls
 from e1gw.call_sums import sums_of
 from e1gw.ctl_all import TrunkLine
@@ -27,8 +28,9 @@ from e1gw_common.frames import FrameSearch
 from e1gw_common.lost import AHEAD, IN_A_ROW, WINDOW, ReceivedNumbers
 from e1gw_common.plain import typed
 from e1gw.status import TrunkStatus
-from e1gw_picture.facts import Cell
-from e1gw_common.session import CIRCUITS, FRAME, Command, Kind, datagram_record, name_of, records_in
+from e1gw_picture.page import draw
+from e1gw_common.session import (CIRCUITS, FRAME, MULTIFRAME, OCTETS_A_SECOND, Command, Kind, Record, datagram_record,
+                                 records_in)
 from e1gw_testing.ports import free_port, free_ports
 
 COUNT, FIRST = 120, 65_500          # packets of a call, and the first number
@@ -77,10 +79,11 @@ class ReceivedNumberTests(PropertyCase):
         self.assertEqual(found.count_lost, 4 + 1 + 999)
 
     def test_another_call(self) -> None:
-        """Begins anew, and what was lost stays; octets that are no RTP have no number."""
+        """Begins anew, and what was lost stays; octets that are no RTP have no number, and a header alone has one."""
         found = lost_of(5, 7)
         found.begin()
-        take(found, 7, 60, 62)
+        take(found, 7, 60)
+        found.take(rtp(62, 0, 7), 0, 12)
         for octets in b'', rtp(90, 0, 7)[:11], b'\x40' + rtp(90, 0, 7)[1:]:
             found.take(octets, 0, len(octets))
         self.assertEqual(found.count_lost, 2)
@@ -132,11 +135,27 @@ def metric_figures(text: str, circuit: int) -> Figures:
     return {'received': int(received), 'lost': int(lost), **with_sum(causes)}
 
 
-def drawn_figures(cell: Cell) -> Figures:
+def drawn_rows(page: str) -> dict[int, list[str]]:
+    """The rows of the counts in a picture, by circuit."""
+    table = page.partition('<table class="counts">')[2].partition('</table>')[0]
+    rows = (re.findall('<td[^>]*>(.*?)</td>', row) for row in table.split('<tr>'))
+    return {int(row[0]): row for row in rows if row}
+
+
+def drawn_figures(row: list[str]) -> Figures:
     """Those of a circuit in a picture; repetitions count separately there."""
-    causes = {name_of(code): seen[0] for code, seen in cell.refused.items()}
-    repeated = {'Repeat': n} if (n := causes.pop('Repeat', 0) + cell.counts['repetitions']) else {}
-    return {'sent': cell.sent, 'received': cell.admitted, 'lost': cell.lost, **with_sum(causes | repeated)}
+    causes, (sent, received, discarded, _, repeated, lost) = cause_of(row[9]), row[6:12]
+    found = {'sent': int(sent), 'received': int(received), 'lost': int(lost), **with_sum(causes)}
+    assert found['discarded'] == int(discarded), row
+    for _ in range(int(repeated)):
+        for name in 'Repeat', 'discarded':
+            count(found, name)
+    return found
+
+
+def drawn_sums(page: str) -> list[int]:
+    """Calls, answers, packets sent, received and discarded in the first line of a picture."""
+    return [*map(int, re.findall(r'\d+(?= (?:calls|answered|sent|received|discarded))', page.partition('<h2>')[0]))]
 
 
 def plan(without: Iterable[int], **at: int) -> Iterator[tuple[int, int, int, int]]:
@@ -168,14 +187,16 @@ def lost_in(packets: Plan) -> int:
     return len({*range(min(came), max(came))} - came)
 
 
-def judged(config: str, session: bytes) -> dict[int, Figures]:
-    """What `e1gw replay` says of the packets of each circuit, and what the plan says of those that were lost."""
-    found = {n: {'lost': lost_in(packets)} for n, (packets, _) in FAULTS.items()}
+def replayed(config: str, session: bytes) -> list[Record]:
+    """What `e1gw replay` answers to a session."""
     with configured(config) as path:
-        given = support.run('replay', '--config', path, given=session)
-    for record in records_in(given):
-        if record.circuit not in found:
-            continue
+        return [*records_in(support.run('replay', '--config', path, given=session))]
+
+
+def judged(replies: Iterable[Record]) -> dict[int, Figures]:
+    """What a replay says of the packets of each circuit, and what the plan says of those that were lost."""
+    found = {n: {'lost': lost_in(FAULTS[n][0]) if n in FAULTS else 0} for n in CIRCUITS}
+    for record in replies:
         if record.kind is Kind.DATAGRAM:
             count(found[record.circuit], 'sent')
         elif record.kind is Kind.ANSWER and record.body[0] == Kind.DATAGRAM:
@@ -188,10 +209,12 @@ def judged(config: str, session: bytes) -> dict[int, Figures]:
 # ---- calls and jitter, by the session ----
 
 class LineFigures(NamedTuple):
-    """Of a circuit: how often it was seized and answered, and the jitter of its packets."""
+    """Of a circuit: how often it was seized and answered, how often that was not acknowledged where that is shown, and
+    the jitter of its packets."""
 
     seizures: int
     answers: int
+    unacknowledged: int | None
     jitter_ms: float
 
 
@@ -214,22 +237,21 @@ class Jitter:
         return self._sixteenths // 16 / 8
 
 
-def answers_in(came: bytes) -> dict[int, int]:
-    """How often each circuit was answered: its bits of slot 16 are 11 and then 01, each for ten multiframes
+def signals_in(came: bytes) -> dict[int, Counter[tuple[int, int]]]:
+    """How often each signal of a circuit followed another one: bits of slot 16, each for ten multiframes
     (ITU-T Q.421)."""
     slots = bytes(octet for _, pairs in FrameSearch().take(came) for octet in pairs[16::FRAME])
-    first, found = next(at for at in range(16) if {*slots[at:at + 320:16]} == {0x0B}), {}
+    first = next(at for at in range(16) if {*slots[at:at + 320:16]} == {0x0B})
+    found = dict[int, Counter[tuple[int, int]]]()
     for n in CIRCUITS:
         bits = [octet >> (2 if n > 15 else 6) & 3 for octet in slots[first + (n - 1) % 15 + 1::16]]
         long = [pair for pair, run in itertools.groupby(bits) if len([*run]) >= 10]
-        found[n] = sum(pair == (0b11, 0b01) for pair in itertools.pairwise(long))
+        found[n] = Counter(itertools.pairwise(long))
     return found
 
 
-def lines_in(config: str, session: bytes) -> dict[int, LineFigures]:
-    """What a session says of each circuit: a seizure is a command that a replay of it does."""
-    with configured(config) as path:
-        replies = records_in(support.run('replay', '--config', path, given=session))
+def lines_in(session: bytes, replies: Iterable[Record]) -> dict[int, LineFigures]:
+    """What a session and a replay of it say of each circuit: a seizure is a command that is done."""
     answers = iter([each for each in replies if each.kind is Kind.ANSWER])
     came, seizures, jitters = bytearray(), Counter[int](), {n: Jitter() for n in CIRCUITS}
     for record in records_in(session):
@@ -239,14 +261,15 @@ def lines_in(config: str, session: bytes) -> dict[int, LineFigures]:
             seizures[record.circuit] += record.kind is Kind.COMMAND and record.body[0] == Command.SEIZE
             if record.kind is Kind.DATAGRAM:
                 jitters[record.circuit].take(len(came), record.body)
-    answered = answers_in(bytes(came))
-    return {n: LineFigures(seizures[n], answered[n], jitters[n].ms) for n in CIRCUITS}
+    signals = signals_in(bytes(came))       # idle, acknowledged, answered
+    return {n: LineFigures(seizures[n], signals[n][0b11, 0b01], seizures[n] - signals[n][0b10, 0b11], jitters[n].ms)
+            for n in CIRCUITS}
 
 
 def table_lines(text: str) -> dict[int, LineFigures]:
     """The same in a table of the status."""
     rows = (row for line in text.splitlines() if ' outgoing ' in line and (row := line.split()))
-    return {int(row[0]): LineFigures(int(row[6]), int(row[7]), float(row[14])) for row in rows}
+    return {int(row[0]): LineFigures(int(row[6]), int(row[7]), None, float(row[14])) for row in rows}
 
 
 def metric_lines(text: str) -> dict[int, LineFigures]:
@@ -254,8 +277,11 @@ def metric_lines(text: str) -> dict[int, LineFigures]:
     def family(name: str) -> dict[int, float]:
         return {int(n): float(value) for n, value in re.findall(
             rf'(?m)^e1gw_{name}\{{.*circuit="(\d+)".*\}} ([\d.e-]+)$', text)}
-    seizures, answers, jitters = map(family, ('circuit_seizures_total', 'circuit_answers_total', 'rtp_jitter_seconds'))
-    return {n: LineFigures(int(seizures[n]), int(answers[n]), 1000 * jitters[n]) for n in CIRCUITS}
+    seizures, answers, unacknowledged = (family(f'circuit_{name}_total') for name in (
+        'seizures', 'answers', 'unacknowledged'))
+    jitters = family('rtp_jitter_seconds')
+    return {n: LineFigures(int(seizures[n]), int(answers[n]), int(unacknowledged[n]), 1000 * jitters[n])
+            for n in CIRCUITS}
 
 
 def count(figures: Figures, name: str) -> None:
@@ -275,6 +301,40 @@ def of_line(call: CallLine) -> Figures:
     """The figures of a call's line, whose first cause is all that it has of them."""
     its = {'received': int(call.received), 'lost': int(call.lost), 'discarded': int(call.discarded)}
     return its | ({'Late': int(call.late)} if int(call.late) else {}) | ({'sent': int(call.sent)} if call.ended else {})
+
+
+def got(port: int, path: str) -> str:
+    """A page of a trunk, as a browser gets it."""
+    request = urllib.request.Request(f'http://127.0.0.1:{port}{path}', headers={'Accept': 'text/html'})
+    with urllib.request.urlopen(request, timeout=support.SECONDS) as answer:
+        return str(answer.read().decode())
+
+
+class TrunkFigureTests(unittest.TestCase):
+    def test_octets_and_losses(self) -> None:
+        """The octets of the trunk, and how often alignment was lost, are as many wherever they are shown, and as were
+        given."""
+        http = free_port()
+        with World(config_of(FOUR), '--session', '@/session', '--http', f'127.0.0.1:{http}') as world:
+            aligned(world)
+            for _ in range(2):
+                world.give(b'\xff' * 5 * MULTIFRAME)
+                aligned(world)
+            status, metrics, given = world.status(), got(http, '/metrics'), bytes(world.sent)
+            texts = world.ask('status'), '\n'.join(row[0] for row in ShownTables(got(http, '/')).rows['state'])
+            world.quit()
+            session, config = support.octets_of(world.path('session')), support.text_of(world.config)
+        self.assertEqual(octets_in(session), given)
+        self.assertEqual((status['octets'], status['losses']), (len(given), {'frame': 2, 'multiframe': 2}))
+        for name, number in (('trunk_octets_total', len(given)), ('alignment_losses_total{.*alignment="frame"', 2),
+                             ('alignment_losses_total{.*alignment="multiframe"', 2)):
+            self.assertRegex(metrics, rf'(?m)^e1gw_{name}.* {number}$')
+        for text in texts:
+            self.assertIn(f'\n{len(given) / OCTETS_A_SECOND:.1f} s of the trunk at ', text)
+            self.assertIn('\nalignment lost: frame 2, multiframe 2; ', text)
+        facts = read_session(config, session)
+        self.assertEqual((facts.place, {what: len(places) for what, places in facts.losses.items()}),
+                         (len(given), status['losses']))
 
 
 class ShownFigureTests(unittest.TestCase):
@@ -310,9 +370,7 @@ class ShownFigureTests(unittest.TestCase):
                 for row in self.world.told()['circuits'] if row['circuit'] in FAULTS}
 
     def got(self, path: str) -> str:
-        request = urllib.request.Request(f'http://127.0.0.1:{self.http}{path}', headers={'Accept': 'text/html'})
-        with urllib.request.urlopen(request, timeout=support.SECONDS) as answer:
-            return str(answer.read().decode())
+        return got(self.http, path)
 
     def call_more(self) -> None:
         """Circuit 9 has a call that ends and another one, and nobody answers circuit 10."""
@@ -328,26 +386,26 @@ class ShownFigureTests(unittest.TestCase):
     def shown_lines(self) -> dict[str, dict[int, LineFigures]]:
         """What is shown of each circuit's calls and jitter."""
         status, cells = self.world.status(), ShownTables(self.got('/')).rows
-        its = {row['circuit']: LineFigures(row['seizures'], row['answers'], row['jitter_ms'])
+        its = {row['circuit']: LineFigures(row['seizures'], row['answers'], row['unacknowledged'], row['jitter_ms'])
                for row in status['circuits']}
         return {'status': its, 'table': table_lines(self.world.ask('status')),
                 'metrics': metric_lines(self.got('/metrics')),
                 'page': {n: its[n]._replace(jitter_ms=float(cells[f'c{n}'][0][6])) for n in FAULTS}}
 
-    def compare_lines(self, shown: Mapping[str, Mapping[int, LineFigures]], session: bytes) -> None:
+    def compare_lines(self, shown: Mapping[str, Mapping[int, LineFigures]], found: Mapping[int, LineFigures]) -> None:
         """Calls and jitter that were shown are those of the session."""
-        found = lines_in(self.config, session)
-        self.assertEqual([(found[n].seizures, found[n].answers) for n in (1, 9, 10, 11)],
-                         [(1, 1), (2, 2), (1, 0), (0, 0)])
+        self.assertEqual([found[n][:3] for n in (1, 9, 10, 11)], [(1, 1, 0), (2, 2, 0), (1, 0, 1), (0, 0, 0)])
         self.assertGreater(found[4].jitter_ms, 2)
         for what, each in shown.items():
             for n, its in each.items():
-                self.assertEqual((its.seizures, its.answers), (found[n].seizures, found[n].answers), (what, n))
+                wanted = found[n][:3] if its.unacknowledged is not None else (*found[n][:2], None)
+                self.assertEqual(its[:3], wanted, (what, n))
                 self.assertAlmostEqual(its.jitter_ms, found[n].jitter_ms, msg=f'{what} {n}',
                                        delta=0.051 if what in ('table', 'page') else 0.006)
-        sums = sums_of(read_calls(self.world.path('calls')), time.time())
-        self.assertEqual((sums.calls, sums.answered),
-                         (sum(its.seizures for its in found.values()), sum(its.answers for its in found.values())))
+        calls = [*read_calls(self.world.path('calls'))]
+        sums = sums_of(calls, time.time())
+        self.assertEqual((sums.calls, sums.answered, sums.most, sum(each.by == 'not acknowledged' for each in calls)),
+                         (*(sum(its[at] or 0 for its in found.values()) for at in (0, 1)), len(FAULTS), 1))
 
     def shown(self) -> dict[str, dict[int, Figures]]:
         """What is shown of each circuit while calls last."""
@@ -359,8 +417,9 @@ class ShownFigureTests(unittest.TestCase):
                  'calls': {int(each['circuit']): of_line(CallLine(**each)) for each in status['calls']},
                  'page': {n: {'lost': int(cells[f'c{n}'][0][5]), **cause_of(cells[f'c{n}'][0][7])} for n in FAULTS},
                  'metrics': {n: metric_figures(metrics, n) for n in FAULTS}}
-        self.assertEqual(TrunkLine.from_status('west', typed(TrunkStatus, status)).lost,
-                         str(sum(each['lost'] for each in found['status'].values())))
+        its = TrunkLine.from_status('west', typed(TrunkStatus, status))
+        self.assertEqual((its.calls, its.lost, its.late), (str(len(FAULTS)), *(
+            str(sum(each.get(name, 0) for each in found['status'].values())) for name in ('lost', 'Late'))))
         for n, (_, causes) in FAULTS.items():
             self.assertEqual({*status['circuits'][n - 1]['datagrams']} - {'sent', 'admitted'}, causes, n)
         return found
@@ -387,9 +446,14 @@ class ShownFigureTests(unittest.TestCase):
         world.quit()
         found['csv'] = {int(each.circuit): of_line(each) for each in read_calls(world.path('calls'))}
         session = support.octets_of(world.path('session'))
-        self.compare_lines(lines, session)
-        facts, expected = read_session(self.config, session), judged(self.config, session)
-        found['picture'] = {n: drawn_figures(facts.rows[n].count()) for n in FAULTS}
+        replies = replayed(self.config, session)
+        self.compare_lines(lines, lines_in(session, replies))
+        page, expected = draw(read_session(self.config, session), ''), judged(replies)
+        found['picture'] = {n: drawn_figures(row) for n, row in drawn_rows(page).items() if n in FAULTS}
+        again = sum(int(row[10]) for row in drawn_rows(page).values())
+        self.assertEqual(drawn_sums(page), [11, 10, *(sum(its.get(name, 0) for its in expected.values()) - less
+                                                      for name, less in (('sent', 0), ('received', 0),
+                                                                         ('discarded', again)))])
         for what, each in found.items():
             for n in FAULTS:
                 figures = {name: value for name, value in each[n].items() if value or name in expected[n]}

@@ -27,8 +27,8 @@ from e1gw.events import (AlarmChanged, BlockNews, CardAlarm, CardAlarmChanged, C
 from e1gw_common.lines import Alignment, Line, LineStatus, Role, State
 from e1gw.metrics import NOT_OPEN, head_of
 from e1gw.satop import SatopStatus
-from e1gw.status import (CircuitStatus, MachineRole, PairStatus, ToldStatus, TransportStatus, TrunkFiles,
-                         TrunkStatus)
+from e1gw.status import CircuitStatus, MachineRole, PairStatus, ToldStatus, TransportStatus, TrunkStatus
+from e1gw.trunk_files import TrunkFiles
 from e1gw.watcher import http_pages
 from e1gw.watcher.options import kept_of
 from e1gw.watcher.page import (POLICY, Look, Parts, ShownRow, circuit_row, ended_row, length, message_of, page_of,
@@ -128,6 +128,19 @@ class PageTextTests(unittest.TestCase):
         for more in None, TrunkStatus(circuits=(row,)):        # (of one without pages nothing is told)
             text = trunks_page([TrunkHere(True, TrunkLine('a', state='secret'), more)], '').decode()
             self.assertEqual(('href' in text, 'secret' in text), (False, more is None))
+
+    def test_red_trunks(self) -> None:
+        """One that does not answer, or is at fault: not one that is not in service, or shows no page. A call of which
+        packets are missing shows at its square."""
+        call = CallLine(*[''] * len(CallLine._fields))._replace(circuit='7', lost='5')
+        row = CircuitStatus(line=LineStatus(7, Role.OUTGOING, State.ACKED))
+        well = replace(WELL, files=TrunkFiles(http=('', 9102)), circuits=(row,), calls=(call,))
+        for is_here, status, is_red in ((True, None, True), (False, None, False), (True, well, False),
+                                        (True, replace(well, told=ToldStatus(trunk_up=False)), True),
+                                        (True, replace(well, files=TrunkFiles(), fault='x'), False)):
+            text = trunk_row(TrunkHere(is_here, TrunkLine('a', state='b'), status), '')
+            self.assertEqual('<td class="bad">b</td>' in text, is_red, text)
+        self.assertIn('<i class="poor" data-s="acked"', trunk_row(TrunkHere(True, TrunkLine('a'), well), ''))
 
     def test_circuits_that_are_blocked(self) -> None:
         """A tile and a square say so, though the line of an outgoing one is idle. If the trunk is not open nothing is
@@ -287,7 +300,7 @@ class WebPartTests(unittest.IsolatedAsyncioTestCase):
                 mock.patch('e1gw.watcher.http_pages.asyncio.sleep', rest):
             for is_told, count in (False, 1), (False, 1), (True, 4):
                 if is_told:
-                    its.changed()
+                    its.mark_stale()
                 self.assertEqual((await its.fresh()).status.renewed, count)
 
     def test_a_socket_that_nobody_reads(self) -> None:

@@ -64,7 +64,7 @@ class PairTests(support.LoopCase):
             self.standby.fill.side_effect = lambda: self.runs.append('fills')
             self.assertEqual(await self.its.change('promote'), DONE)
             self.assertEqual((self.asked, self.runs), ([words], ['begins', 'ends', 'fills', 'unlocks before []']))
-            self.trunk.reader.begins_anew.assert_called_with((3, 9))
+            self.trunk.reader.switch_log.assert_called_with((3, 9))
             self.standby.publish.assert_called_with(None)
 
     async def test_asked_twice_and_the_reverse(self) -> None:
@@ -98,7 +98,7 @@ class PairTests(support.LoopCase):
         self.its.look()
         await asyncio.sleep(0)
         self.assertEqual((self.runs, self.asked), (['begins', 'ends'], []))
-        self.trunk.reader.begins_anew.assert_called_once_with((3, 9))
+        self.trunk.reader.switch_log.assert_called_once_with((3, 9))
         self.standby.publish.assert_called_once_with(None)
         self.assertEqual(self.its.role(), 'active, fed')
 
@@ -110,7 +110,7 @@ class PairTests(support.LoopCase):
         self.assertEqual((self.runs, self.its.facts().role), ([], 'active'))
         self.assertEqual(await self.its.change('promote'), DONE)
         self.standby.fill.assert_not_awaited()
-        self.trunk.reader.begins_anew.assert_not_called()
+        self.trunk.reader.switch_log.assert_not_called()
 
     async def test_moved(self) -> None:
         """The feed says so meanwhile; what nobody takes comes back, with what this machine had."""

@@ -165,7 +165,7 @@ class PictureCommandTests(FolderCase):
                 ([given], 1, 'no configuration'),
                 (['--config', config, nothing], 1, 'No such file'),
                 (['--config', nothing, given], 1, 'No such file'),
-                (['--config', bad, given], 1, 'e1gw-picture: config 5 OutOfRange at 0\n'),
+                (['--config', bad, given], 1, f'e1gw-picture: config 5 OutOfRange at 0: {bad}:2: host is '),
                 (['--config', config, '--program', nothing, given], 1, 'No such file'),
                 (['--config', config, '--capture', config, given], 1, 'no local_port'),
                 (['--last', '5 parsecs', given], 2, 'is not a time such as'),

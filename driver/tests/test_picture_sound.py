@@ -154,7 +154,7 @@ class ListeningTimesTests(unittest.TestCase):
         """Often at first, ever more seldom then, and never further apart than is asked for."""
         for most, seconds in (math.inf, 90), (256_000, 60):
             turns = ListeningTimes()
-            looks = [place for place in range(0, seconds * 256_000, 512) if turns.come(place, most)]
+            looks = [place for place in range(0, seconds * 256_000, 512) if turns.advance(place, most)]
             apart = [b - a for a, b in zip(looks, looks[1:])]
             self.assertAlmostEqual(apart[0] / EACH, 1, delta=0.01)
             self.assertLessEqual(max(apart), most)

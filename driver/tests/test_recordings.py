@@ -180,13 +180,13 @@ class LogReaderTests(support.LoopCase):
                 self.reader.take_up(note, None)
             self.written(at := at + self.goes_on() / OCTETS_A_SECOND)
             with self.assertLogs('e1gw.watcher.reader', 'WARNING'):
-                await self.reader.copied()
+                await self.reader.keep_older_pair()
             self.assertEqual(self.reader.octets, self.log.octets)
         before, place = self.log.octets, self.log.place
         octets = self.goes_on()
         self.written(at + 1e6)
         with self.assertLogs('e1gw.watcher.reader', 'WARNING'):
-            await self.reader.copied()
+            await self.reader.keep_older_pair()
         records = 501           # that the log still has, whose octets are counted
         self.assertEqual(self.reader.octets, before + octets + (self.log.place - place - octets) - 4 * records)
 
@@ -279,7 +279,7 @@ class LogReaderTests(support.LoopCase):
         """Beside the file of a ring, at the place where octets were lost; and what a program had in hand."""
         self.reader = self.reads(RecordingWants(self.path('ring'), 60, 'west', '/etc/west.toml', 200))
         self.reader.take_up(ReadingNote(), None)
-        self.reader.follows(True)
+        self.reader.on_next_program(True)
         self.go(2)
         place = self.log.octets
         self.go(0.25, comes=False)

@@ -24,7 +24,7 @@ class ResyncRuleTests(unittest.TestCase):
         """Datagrams with this answer, and a look behind each."""
         for self.now in moments:
             for n in circuits:
-                self.rule.counted(n, code, round(self.now * SECOND), 1)
+                self.rule.count_answers(n, code, round(self.now * SECOND), 1)
             self.rule.look(self.now, round(self.now * SECOND), [1, 2], True)
 
     def test_limits(self) -> None:
@@ -139,7 +139,7 @@ class ResyncPropertyTests(PropertyCase):
                     code = how[n % len(how)] if what == 'burst' else how
                     place = round(now * SECOND)
                     if what in ('come', 'burst'):
-                        rule.counted(1, code, place, times := 1 + n % 3)
+                        rule.count_answers(1, code, place, times := 1 + n % 3)
                         for _ in range(times * (code != 13)):
                             call.comes(place, code != 0)
                     elif what == 'want':

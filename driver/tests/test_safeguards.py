@@ -70,7 +70,7 @@ class SpeechTests(unittest.TestCase):
         state = SimpleNamespace(place=3, state=b'')
         for follows, begins in (False, 0), (True, 1), (False, 1):
             if follows:
-                reader.follows(False)
+                reader.on_next_program(False)
             reader._see_file(state, False)      # type: ignore[arg-type]
             self.assertEqual(recording.begin.call_count, begins)
 

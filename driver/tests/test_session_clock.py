@@ -84,7 +84,7 @@ class KeptSession:
     def begin(self, lost: bool) -> None:
         """Another program. (The end of the one before it has the log read.)"""
         self.reader.look()
-        self.reader.follows(lost)
+        self.reader.on_next_program(lost)
         self.log.turns()
         self.reader.look()
 

@@ -340,7 +340,7 @@ class EventAndFaultTextTests(unittest.TestCase):
         for read, text, value in ((number(1, 3), '1', 1), (number(1, 3), '3', 3), (number(0, 1, float), '0.5', 0.5),
                                   (checked(int), '7', 7)):
             self.assertEqual(read(text), value)
-        for read, text, words in ((number(1, 3), '0', '1 to 3'), (number(1, 3), '4', '1 to 3'),
+        for read, text, words in ((number(1, 3), '0', '0 is not 1 to 3'), (number(1, 3), '4', '4 is not 1 to 3'),
                                   (checked(int, 'a number'), 'x', 'x is not a number'),
                                   (checked(int), 'x', r"invalid literal for int\(\) with base 10: 'x'")):
             self.assertRaisesRegex(argparse.ArgumentTypeError, f'^{words}$', read, text)

@@ -83,7 +83,7 @@ class Machine:
         """Its watcher: the last one that was started."""
         for each in self._others[-1:]:
             return each.pid
-        (found,) = (pid for pid in children(self.process.pid) if words_of(pid)[1].endswith('e1gw-watch'))
+        (found,) = (pid for pid in children(self.process.pid) if 'e1gw-watch' in ' '.join(words_of(pid)[:2]))
         return found
 
     def pids(self) -> list[int]:
@@ -91,7 +91,7 @@ class Machine:
         return [self.process.pid, self.watcher()]
 
     def kill_watcher(self) -> None:
-        """It has none then."""
+        """It has none then (see `machine`)."""
         os.kill(pid := self.watcher(), signal.SIGKILL)
         support.until(lambda: not words_of(pid))
         os.unlink(self.control)
@@ -167,7 +167,8 @@ class PairCase(KeeperCase):
 
     def machine(self, name: str, config: str = '', *more: str, **within: Any) -> Machine:
         words = '--config', config or self.config, *self.trunk
-        around = limits.around(LONG | limits.TELLS | {'holder.roles.MOST_AGE': limits.LONG} | within)
+        alone = {'holder.watcher_child.REFUSED': (0, 2, -signal.SIGKILL)}       # (no other one follows what is killed)
+        around = limits.around(LONG | limits.TELLS | alone | {'holder.roles.MOST_AGE': limits.LONG} | within)
         return Machine(self, name, self.ports, *words, *more, **around, **self.clock.around)
 
     def promoted(self, machine: Machine) -> None:
@@ -182,6 +183,8 @@ class PairCase(KeeperCase):
         self.promoted(a)
         self.calls()
         self.fed(b)
+        log, copy = a.log(), b.fed_log()
+        support.until(lambda: copy.look() == log.look())        # (it may have been fed before the calls)
         return a, b
 
     def fed(self, machine: Machine) -> None:

@@ -75,7 +75,7 @@ class WatchEdgeTests(TrunkWatchCase):
             for n, state in ((3, State.ANSWERED), (4, State.SEIZED)):
                 found._lines.lines[n].begin(state, 0.0)
             with mock.patch.object(found, 'tell') as tells:
-                found.flowed(ClockFinding(what, 0.25))
+                found.on_clock_finding(ClockFinding(what, 0.25))
             self.assertEqual(tells.mock_calls, [mock.call(event)])
             found._restarts.look(100.0, 0, found._lines.open_circuits(), True)
             await asyncio.sleep(0)
@@ -87,7 +87,7 @@ class WatchEdgeTests(TrunkWatchCase):
         found, told = self.watched(), list[Event]()
         clock = SimpleNamespace(time=lambda: 1e9, monotonic=lambda: 100.0)
         with mock.patch.object(watch, 'time', clock), mock.patch.object(found, 'tell', told.append):
-            found.flowed(ClockFinding('gap', 0.25, 97.5))
+            found.on_clock_finding(ClockFinding('gap', 0.25, 97.5))
         self.assertEqual(told, [Slip(0.25, 1e9 - 2.5)])
 
     async def test_counts_go_on(self) -> None:
@@ -108,7 +108,7 @@ class WatchEdgeTests(TrunkWatchCase):
         found._lines.take('\n'.join([row(3, 'fault'), row(5, 'idle'), row(4, 'answered'), '']).encode())
         later = self.watched()
         later.blocks = found.blocks
-        later.was_shown(typed(watch.ShownNote, json.loads(json.dumps(shown, default=vars))))
+        later.restore_shown(typed(watch.ShownNote, json.loads(json.dumps(shown, default=vars))))
         later.take_up(typed(CallsNote, json.loads(json.dumps(calls, default=vars))))
         its = later.known()
         self.assertEqual((its.renewed, its.commands), (4, (CommandCount('seize', 'done', 1),)))
@@ -134,16 +134,16 @@ class WatchEdgeTests(TrunkWatchCase):
         """It is an alarm, and red in the first line, up to the right one, also behind another watcher."""
         found = self.watched()
         setattr(found.trunk.reader.clock, 'rate', rate := TrunkRate())
-        found.was_shown(found.page_notes())
+        found.restore_shown(found.page_notes())
         self.assertFalse(rate.is_wrong)
-        found.flowed(ClockFinding('wrong rate', 0.2))
+        found.on_clock_finding(ClockFinding('wrong rate', 0.2))
         later = self.watched()
         later.blocks = mock.Mock(**{'kept.now.word.return_value': None})
         setattr(later.trunk.reader.clock, 'rate', rate)
-        later.was_shown(found.page_notes())
+        later.restore_shown(found.page_notes())
         self.assertTrue(rate.is_wrong)
         for what, is_bad in ('wrong rate', True), ('right rate', False):
-            later.flowed(ClockFinding(what, 0.9985))
+            later.on_clock_finding(ClockFinding(what, 0.9985))
             self.assertEqual(len(later.known().alarms), is_bad)
             clock = ClockStatus(rate=0.9985, rate_wrong=is_bad)
             parts = parts_of(replace(later.known(), clock=clock), PageNotes((), (), None))
@@ -154,7 +154,7 @@ class WatchEdgeTests(TrunkWatchCase):
         """It is reported where that was, the program is not blamed, and all others are told."""
         change = '\n'.join([row(3, 'seized', '00 10'), 'command 3 1 0', counts(3, 1), 'alarms 1 0 0 0', ''])
         for kind, what in ((CallLog, 'on_state_change'), (CallNames, 'look'), (ReadEvents, 'take'),
-                           (TrunkPages, 'changed'), (ProgramConnection, 'on_record'), (Resyncs, 'counted')):
+                           (TrunkPages, 'mark_stale'), (ProgramConnection, 'on_record'), (Resyncs, 'count_answers')):
             with self.subTest(what), mock.patch.object(kind, what, side_effect=KeyError('odd')):
                 found = self.watched()
                 found.blocks, follower = mock.Mock(), mock.Mock()
@@ -262,7 +262,7 @@ class WatchEdgeTests(TrunkWatchCase):
         found = self.watched()
         with mock.patch.object(found, 'tell') as tell, self.assertLogs(watch.__name__) as logs:
             for why in 'no room', None:
-                found.stands_beside('json', why)
+                found.set_ended('json', why)
                 self.assertEqual(found.known().ended, {'json': why, 'calls': None, 'session': None})
         tell.assert_called_once_with(WatchEnded('json', 'no room'))
         self.assertEqual([each.getMessage() for each in logs.records], ['json: written again'])

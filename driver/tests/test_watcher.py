@@ -164,6 +164,13 @@ class WatcherShowsTests(WatcherCase):
         self.watches()
         support.until(lambda: os.path.exists(self.path('ctl')))
 
+    def test_without_a_trunk(self) -> None:
+        """It says what it waits for."""
+        self.watches()
+        support.until(lambda: os.path.getsize(self.path('watched')))
+        self.assertRegex(support.text_of(self.path('watched')),
+                         f'no trunk at {self.places.folder}: e1gw-trunk is waited for\n$')
+
     def test_whose_holder_has_ended_at_once(self) -> None:
         """It does not wait for another one."""
         words = [*self.watcher_words(), '--config', self.config, '--folder', self.memory, '--program',

@@ -261,7 +261,7 @@ class HeldTrunkTests(support.LoopCase):
         """Also if its log is in a folder that was made again, and nobody has looked since."""
         record, places = trunk_record(bytes(MULTIFRAME)), TrunkPlaces(self.folder)
         trunk = HeldTrunk(places, STATE, 'e1gw', '', mock.Mock(), None)
-        trunk.reads(reader := LogReader(places.log, 1.0, None, mock.Mock(), bytes))
+        trunk.set_reader(reader := LogReader(places.log, 1.0, None, mock.Mock(), bytes))
         self.addCleanup(reader.log.close)
         for folder, more in (places.log, 0), (self.path('again'), 3):
             with closing(LogWriter(folder)) as log:

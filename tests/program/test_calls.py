@@ -56,7 +56,7 @@ CALLS: dict[str, list[str]] = {
     'trunk --config config': [*READ_CONFIG, *UDP, 'run'],
     'trunk --config config --crc4 --align --slots 1-31': [*READ_CONFIG, *UDP, 'run'],
     'trunk --config config --log log --load old --save new --control control --tell tell --crc4':
-        [*LOCKED, *door('control'), 'pair', *READ_CONFIG, *logged('RDONLY'), 'open old RDONLY',
+        [*LOCKED, *door('control'), *READ_CONFIG, *logged('RDONLY'), 'open old RDONLY',
          *logged('RDONLY'), *logged('RDWR|CREAT'), *UDP, *door('tell'), 'run', *NEW_STATE],
     'satop 127.0.0.1:near 127.0.0.1:far': [*UDP, 'connect 127.0.0.1:far', 'run'],
     'satop 127.0.0.1:near 127.0.0.1:far --from 127.0.0.1:near': [*UDP, 'connect 127.0.0.1:near', 'run'],
@@ -83,7 +83,7 @@ def said_of(call: str, names: dict[str, str]) -> str | None:
             return ' '.join(['socket', *re.findall(r'(?:AF|SOCK)_(INET6?|UNIX|DGRAM|STREAM)', rest)])
         case 'bind' | 'connect':
             return f'{name} {address_in(rest, names)}'
-    words = {'flock': 'lock', 'fsync': 'sync', 'socketpair': 'pair', 'unlink': 'remove'}
+    words = {'flock': 'lock', 'fsync': 'sync', 'unlink': 'remove'}
     return ' '.join([words.get(name, name), *texts])
 
 

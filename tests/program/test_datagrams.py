@@ -2,19 +2,17 @@
 peer from its own port, numbered from `sequence`, as e1gw(1) says. Circuits are in calls."""
 from __future__ import annotations
 
-import contextlib
 import os
 import socket
 import subprocess
 import tempfile
-import threading
 import time
 from typing import Any, Iterator
 
 import pytest
 
 from .case import Program
-from .octets import TWO_FRAMES, TWO_FRAMES_SENT
+from .octets import TWO_FRAMES
 from .udp_calls import CIRCUIT, CONFIG, UdpCalls, spoken
 from e1gw_common.session import Codec, Kind, Packet, codec_record, datagram_record, packet_of, records_in, trunk_record
 from e1gw_testing.datagrams import PACKET, PCMA, bind_socket, packets, speech
@@ -158,61 +156,12 @@ def test_peer_that_is_not_there(senders: str, program: Program) -> None:
         call.end(got[-1] + 1)
 
 
-# Sessions with a descriptor closed: the options, what is given, what is written, what is said, the status.
-# With 1 closed answers are not to be written to a socket. With 2 closed lines are said that nobody reads, while the
-# sockets are open: the totals.
-SHUT = {
-    0: ((), b'', b'', b'fault 5 Read\n', 1),
-    1: ((), TWO_FRAMES, b'', b'fault 6 Write\n', 1),
-    2: (('--totals',), TWO_FRAMES, TWO_FRAMES_SENT, b'', 0),
-}
-
-
 def one_circuit(program: Program, peer: socket.socket) -> tuple[str, int]:
     """A configuration of one circuit with a free port and this peer: its path, and the port."""
     path, [port] = program.room / 'one.toml', free_ports(1)
     path.write_text(CONFIG.format(host='127.0.0.1') + CIRCUIT.format(
         number=1, local=port, peer_host='127.0.0.1', peer=peer.getsockname()[1]), encoding='ascii')
     return str(path), port
-
-
-def check_shut(program: Program, path: str, shut: int, *options: str) -> None:
-    """Runs serve with a descriptor closed."""
-    more, given, wrote, said, status = SHUT[shut]
-    done = subprocess.run([program.path, 'serve', '--config', path, *options, *more], input=given, capture_output=True,
-                          preexec_fn=lambda: os.close(shut), check=False)
-    assert (done.stdout, done.stderr, done.returncode) == (wrote, said, status)
-
-
-@pytest.mark.parametrize('shut', SHUT)
-def test_nothing_to_the_peer(shut: int, program: Program) -> None:
-    """A socket that is connected to its peer takes no closed descriptor's place: nothing is written to it."""
-    with bind_socket('127.0.0.1') as peer:
-        check_shut(program, one_circuit(program, peer)[0], shut, '--senders', 'peer')
-        assert [*packets(peer)] == []
-
-
-def test_nothing_from_a_stranger(program: Program) -> None:
-    """Standard input is closed while datagrams that spell a record come to a circuit's port: none is read as one."""
-    with bind_socket('127.0.0.1') as peer:
-        path, port = one_circuit(program, peer)
-        ended = threading.Event()
-        flood = threading.Thread(target=send_records, args=(port, ended))
-        flood.start()
-        try:
-            for _ in range(20):
-                check_shut(program, path, 0)
-        finally:
-            ended.set()
-            flood.join()
-
-
-def send_records(port: int, ended: threading.Event) -> None:
-    """Sends datagrams that spell a record of the trunk to a port of this machine, until it is ended."""
-    with bind_socket('127.0.0.1') as sender:
-        while not ended.is_set():
-            with contextlib.suppress(OSError):
-                sender.sendto(TWO_FRAMES, ('127.0.0.1', port))
 
 
 @pytest.mark.parametrize('count, length', [(60, 1412), (200, 12)])

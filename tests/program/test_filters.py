@@ -6,7 +6,7 @@ from typing import Any, Iterator
 
 import pytest
 
-from .case import Case, Like, Program
+from .case import CLOSED, Case, Like, Program
 from .octets import (IDLE, LAW_A, NOT_SEIZED, TWO_FRAMES, TWO_FRAMES_SENT, crc4_told, crc4_trunk, multiframe, streams,
                      with_turned)
 
@@ -73,6 +73,8 @@ FILTERS = [
     Case("crc4: 32 frames of idle octets", ["crc4"], IDLE * 1024, FRAMES),
     Case("crc4: two frames and an octet", ["crc4"], IDLE * 65, (b"\x55" + IDLE * 31) * 2 + b"\x55"),
     Case("crc4: reports of no error", ["crc4", "--reports", "/dev/zero"], IDLE * 1024, FRAMES),
+    Case("crc4: reports, to closed", ["crc4", "--reports", "/dev/zero"], IDLE * 64, err="fault 6 Write\n", status=1,
+         to=CLOSED),
     *(Case(f"crc4: reports from {path}", ["crc4", "--reports", path], IDLE * 64,
            err=f"cannot open the file of --reports: {path}: {why}\n", status=2) for path, why in (
                ("/nowhere/reports", "No such file or directory (os error 2)"),
@@ -109,9 +111,10 @@ def checked() -> Iterator[Case]:
     yield Case("crc4 --check: 915 in error", check, many, many, crc4_told(915, 915, found=1, lost=1, given_up=1))
     yield Case("crc4 --check: no frame", check, IDLE * 5000, IDLE * 5000, crc4_told())
     # a second of the trunk, and then not a whole submultiframe
-    second = crc4_trunk(1001)[:256_100]
-    yield Case("crc4 --check: each second", check + ["--live"], second, second,
-               "live " + crc4_told(989, found=1).replace("\n", " ").strip() + "\n" + crc4_told(989, found=1))
+    second, told = crc4_trunk(1001)[:256_100], crc4_told(989, found=1)
+    yield Case("crc4 --check: a second", check, second, second, told)
+    yield Case("crc4 --check --live: a second", check + ["--live"], second, second,
+               "live " + told.replace("\n", " ").strip() + "\n" + told)
     for path, unreported in (("/dev/null", 0), ("/dev/full", 1)):
         yield Case(f"crc4 --check: reports to {path}", check + ["--reports", path], turned, turned,
                    crc4_told(19, 1, found=1) + f"unreported {unreported}\n")

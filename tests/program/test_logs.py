@@ -17,7 +17,7 @@ from typing import Callable
 
 import pytest
 
-from .case import Program
+from .case import CLOSED, Case, Program
 from .octets import NOT_SEIZED, SEIZED, multiframe
 from e1gw_common.session import MULTIFRAME, Kind, records_in, trunk_record
 
@@ -26,6 +26,7 @@ SIZES = {'records.0': 8_388_608, 'records.1': 8_388_608, 'state.0': 262_144, 'st
 HEAD = 24                   # octets of the head of an area
 # A line that becomes idle, and is seized; what comes then finds it in a call.
 HEARD = [multiframe(NOT_SEIZED)] * 20 + [multiframe(SEIZED)] * 20
+MANY = 50                   # multiframes that are sent at once
 pytestmark = pytest.mark.timeout(900)   # seconds, of a program without proof on a loaded machine
 DAMAGED = 'the log of the trunk in {} has no state that can be loaded\n'
 
@@ -212,7 +213,7 @@ def test_write_that_fails(fault: int | None, later: int, failing: str, program: 
     """A call on the log's files fails, or writes a half. The program says so and ends behind the octets in hand, and
     the next one goes on behind all that was logged; or nothing is to be seen of it. Whoever carries the trunk so many
     multiframes later is killed, and the next one goes on, too."""
-    heard, log = [*HEARD, *[multiframe(SEIZED)] * later], program.room / 'log'
+    heard, log = [*HEARD, *[multiframe(SEIZED) * MANY] * (later // MANY)], program.room / 'log'
     for at in (*range(1, 8), 20, 39) if not later else (5, 6):
         shutil.rmtree(log, ignore_errors=True)
         log.mkdir()
@@ -276,6 +277,16 @@ def test_another_configuration(program: Program) -> None:
     assert ended(program, ptime=30) == (0, 'circuit 1 begins as new\n')
     status, line = ended(program, law='mu')
     assert (status, line.split()[:1]) == (2, ['state'])
+
+
+def test_closed_streams(program: Program, log: Path) -> None:
+    """The file of the lock takes no closed descriptor's place: nothing is read from it as the trunk, and neither octets
+    nor lines are written to it."""
+    words = ['trunk', '--config', config_in(program.room), '--log', str(log), '--totals']
+    for case in (Case('', words, CLOSED, err='fault 5 Read\n', status=1),
+                 Case('', words, HEARD[0], err='fault 6 Write\n', status=1, to=CLOSED), Case('', words, silent=True)):
+        assert program.ran(case) == case.wanted
+        assert (log / 'lock').read_text(encoding='ascii').strip().isdecimal()
 
 
 def limited(program: Program, octets: int) -> Program:
