@@ -38,6 +38,9 @@ class ComparisonTests(unittest.TestCase):
         self.assertEqual(self.compared(bytes(heard)).wrong, 1)
         del heard[800:831]
         self.assertGreater(self.compared(bytes(heard)).wrong, 700)
+        self.assertEqual([count for _, count in self.compared(bytes(heard)).slips], [31])
+        heard[300:300] = SILENCE[:16]
+        self.assertEqual([count for _, count in self.compared(bytes(heard)).slips], [-16, 31])
         self.assertEqual(self.compared(SILENCE * 8).octets, 0)
 
     def test_missing_packets(self) -> None:
