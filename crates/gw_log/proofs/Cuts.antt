@@ -17,8 +17,8 @@ use Rattle.gw_log.specs.Calls.{AreLogged, AreBehind, Call, HasCutIn, IsBehind, L
 use Rattle.gw_log.specs.Calls.{WasCalled, WereCalled, records_in, records_of}
 use Rattle.gw_log.specs.Logs.{Appended, CanFollow, Checkpointed, EndsFor, IsUnused, LeavesOf, Keeps, Shown}
 use Rattle.gw_log.specs.Logs.{Takes, TrunkLogState, Uncheckpointed, kept_as}
-use Rattle.gw_log.specs.declared.file_log.LogFault.TheVariants as faults
-use Rattle.gw_log.specs.declared.file_log.LogFault.{LogFault}
+use Rattle.gw_log.specs.declared.checkpointing.LogFault.TheVariants as faults
+use Rattle.gw_log.specs.declared.checkpointing.LogFault.{LogFault}
 use Rattle.gw_log.proofs.Keeping.{left_still}
 
 -- the records of one call more

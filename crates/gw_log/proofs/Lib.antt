@@ -1,4 +1,4 @@
-pub mod Checkpointing
+pub mod CheckpointOctets
 pub mod Cuts
 pub mod Keeping
 mod Rows

@@ -42,7 +42,7 @@ module _ (left_law : LogsAreLeft) (go_on : LoadedGatewaysGoOn) (one_reading : At
         (called_good served.0.begun life.start.log life.start.calls served.0.called) in
         let did = cut_law config (history ++ wait) life.start.gateway (flat_map spelled l.0) life.gave l.0 endings.End
         stands c (reads_all l.0 good) in
-        (wait ++ events l.0, inr (l.0, c.inputs, l.1, refl, did), l.2)
+        (wait ++ events l.0, inr (l.0, c, l.1, refl, did), l.2)
 
     -- .. and starts, one behind the other
     all_lives : (lives : List Life) (disk disk' : Disk) (history : List Event) (next : Gateway)

@@ -17,7 +17,7 @@ use Rattle.gw_session.specs.Answers.{events}
 use Rattle.gw_session.specs.Running.{all_kinds}
 use Rattle.gw_session.proofs.ReadBack.{reads_all}
 use Rattle.log_files.specs.Pairs.{Kept}
-use Rattle.gw_log.proofs.Checkpointing.{checkpoint_begins, checkpoint_behind, checkpoint_long}
+use Rattle.gw_log.proofs.CheckpointOctets.{checkpoint_begins, checkpoint_behind, checkpoint_long}
 use Rattle.gw_log.specs.Logs.{kept_as}
 use Rattle.gw_log.specs.Resuming.{GoesOnWith, IsResumed}
 use Rattle.gw_log.specs.State.{IsCheckpoint, IsStateIn}

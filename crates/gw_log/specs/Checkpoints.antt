@@ -1,4 +1,4 @@
--- The octets of a checkpoint (module `checkpoint`).
+-- The octets of a checkpoint (module `checkpoint_octets`).
 use Rattle.std.specs.Prelude.{ℕ, List, [], ◌∷◌, ◌++◌, drop, if◌then◌else◌, length, nat_lt}
 use Rattle.byteorder.specs.Endian.{big_bytes, big_number}
 

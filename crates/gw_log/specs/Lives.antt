@@ -9,7 +9,6 @@ use Rattle.gw_state.specs.Layout.{ConfigFits}
 use Rattle.gw_records.specs.Records.{Record, spelled}
 use Rattle.gw_session.specs.Answers.{events}
 use Rattle.gw_session.specs.Killed.{AnswersFirst, GivenOut, WasCutOff}
-use Rattle.gw_session.specs.Serve.{SessionInput}
 use Rattle.log_files.specs.Pairs.{HasNothingWhole}
 use Rattle.gw_log.specs.Calls.{AreLogged, WasServed}
 use Rattle.gw_log.specs.Logs.{HalfCheckpointed}
@@ -42,15 +41,15 @@ WasKilledSo life =
     × ((records : List Record) → AreLogged life.start.log life.start.calls records → WasCut life records))
 
 -- What a start gave out that has logged this: nothing, if it was killed in its first checkpoint; or the first
--- of what answers its records, behind all that the starts before have logged.
+-- of what answers the inputs of its session, behind all that the starts before have logged.
 abbrev pub HasDone : GatewayConfig → List Event → Life → List Event → Type 0
 HasDone config before life logged =
     (HasLogged life.start logged × HalfCheckpointed life.start.opened life.start.log life.start.gateway
     × GaveNothing life)
-    ⊎ ((records : List Record) × (inputs : List SessionInput)
+    ⊎ ((records : List Record) × (cut : WasCut life records)
     × AreLogged life.start.log life.start.calls records
     × (logged ≡ given_wait life.start.wait ++ events records)
-    × AnswersFirst config (before ++ given_wait life.start.wait) inputs (events records) life.gave)
+    × AnswersFirst config (before ++ given_wait life.start.wait) cut.inputs (events records) life.gave)
 
 -- what starts gave out, one behind the other
 abbrev pub HaveDone : GatewayConfig → List Event → List Life → List Event → Type 0

@@ -16,8 +16,8 @@ use Rattle.log_files.specs.declared.loading.Loaded.{Loaded}
 use Rattle.log_files.specs.declared.loading.Loaded.TheVariants.{First, Second}
 use Rattle.log_files.specs.Stores.{WhereKnown}
 use Rattle.gw_log.specs.Checkpoints.{checkpoint, checkpoint_place}
-use Rattle.gw_log.specs.declared.file_log.LogFault.{LogFault}
-use Rattle.gw_log.specs.declared.file_log.LogFault.TheVariants as faults
+use Rattle.gw_log.specs.declared.checkpointing.LogFault.{LogFault}
+use Rattle.gw_log.specs.declared.checkpointing.LogFault.TheVariants as faults
 
 -- the log of a trunk: its files, the configuration of its gateways, how many octets of records it took since
 -- it was first begun, whether it ended, whether a write failed, how often it ended, and the octets that it

@@ -2,8 +2,8 @@
 //! whenever the program is killed; and the gateway that goes on from what such files have.
 #![tactic(auto)]
 
-mod checkpoint;
-mod file_log;
+mod checkpoint_octets;
+mod checkpointing;
 pub mod laws;
 mod log_contents;
 mod resuming;
@@ -11,7 +11,7 @@ mod room;
 mod state;
 mod trunk_log;
 
-pub use file_log::LogFault;
+pub use checkpointing::LogFault;
 pub use log_contents::{LogContents, PairOctets};
 pub use resuming::{Found, resumed_of};
 pub use room::fill_file;

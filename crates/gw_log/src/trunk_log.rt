@@ -14,8 +14,8 @@ ghost use Rattle.gw_log.specs.Logs.{IsUnused};
 ghost use Rattle.gw_log.specs.Logs.{Appended, Checkpointed, Shown, Uncheckpointed, files_over};
 ghost use Rattle.gw_log.specs.Logs.{place_after_kept, place_after_loaded, told_by};
 
-use crate::checkpoint::checkpoint_place;
-use crate::file_log::{FileLog, LogFault};
+use crate::checkpoint_octets::checkpoint_place;
+use crate::checkpointing::{FileLog, LogFault};
 use gw_records::{Line, RecordHead};
 use gw_session::{PacketPorts, Tape, TrunkRecord, spell};
 use gw_switch::{Gateway, GatewayConfig};

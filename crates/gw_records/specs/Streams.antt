@@ -1,8 +1,10 @@
 -- What sources and sinks report, and how reads and writes change it.
 use Rattle.std.specs.Prelude.{◌≡◌, ◌==◌, ◌⊎◌, ◌+◌, ◌-◌, ◌<◌, ◌≤◌, ◌^◌, ◌&&◌, if◌then◌else◌, ◌++◌, ℕ, min}
-use Rattle.std.specs.Prelude.{Bool, true, false, nat_lt, List, [], length, MatchResult, Option, Some, None}
+use Rattle.std.specs.Prelude.{nat_lt, List, [], length, MatchResult, Option, Some, None}
 use Rattle.std.specs.Prelude.{Result}
 use Rattle.std.specs.Io.KnownBytes.{Appends, Consumes, IsAtEnd}
+use Rattle.gw_records.specs.declared.line.AnswerTime.{AnswerTime}
+use Rattle.gw_records.specs.declared.line.AnswerTime.TheVariants.{AtOnce, BeforeNextRead}
 use Rattle.gw_records.specs.declared.outcome.RunFault.{RunFault}
 use Rattle.gw_records.specs.declared.outcome.RunFault.TheVariants.{Write}
 
@@ -58,9 +60,9 @@ pub record GivesOctets (old new : SourceState) (octets : List ℕ) : Type 0 wher
 
 -- how many octets wait at most when a record was acted on: none if it is answered at once, else as many as
 -- the buffer holds
-abbrev pub most_waiting : Bool → ℕ
-most_waiting true = 0
-most_waiting false = 65536
+abbrev pub most_waiting : AnswerTime → ℕ
+most_waiting AtOnce = 0
+most_waiting BeforeNextRead = 65536
 
 -- why reading ends: a read failed, or there were 2 ^ 62 others, each of which gave an octet
 abbrev pub GivesUp : SourceState → SourceState → List ℕ → Type 0

@@ -12,7 +12,7 @@ mod records;
 mod streams;
 mod writing;
 
-pub use line::{Line, OctetLine};
+pub use line::{AnswerTime, Line, OctetLine};
 pub use log::{AtStart, Log};
 pub use octets::{codec_of, command_of, octet_of_codec, octet_of_command};
 pub use outcome::{NO_TOTALS, RunFault, Totals, answer};

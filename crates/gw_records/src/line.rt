@@ -102,25 +102,32 @@ pub trait Line {
         ensures terms { terms self.new ≡ terms self.old };
 }
 
+/// When answers are written.
+#[derive(Clone, Copy, Debug, PartialEq, Eq)]
+pub enum AnswerTime {
+    /// When they are put.
+    AtOnce,
+    /// Before the next read, or when the buffer is full.
+    BeforeNextRead,
+}
+
 /// The records that the octets of a source spell, and a sink for the octets that spell the answers.
 #[derive(Drop)]
 pub struct OctetLine<'a, S, K> {
     reader: &'a mut Reader,
     source: &'a mut S,
     waiting: OutputBuffer,
-    // Whether each answer is written when it is put.
-    at_once: bool,
+    answer_time: AnswerTime,
     sink: &'a mut K,
 }
 
 impl<'a, S: Source, K: Sink> OctetLine<'a, S, K> {
-    /// Before the first read and the first answer. Answers wait for the next read, or are written when they
-    /// are put.
+    /// Before the first read and the first answer.
     pub fn new(
         reader: &'a mut Reader,
         source: &'a mut S,
         sink: &'a mut K,
-        at_once: bool,
+        answer_time: AnswerTime,
     ) -> OctetLine<'a, S, K>
         ensures reader { result.reader.now ≡ reader.old }
         ensures source { result.source.ghost_name ≡ source.entry.ghost_name }
@@ -128,13 +135,13 @@ impl<'a, S: Source, K: Sink> OctetLine<'a, S, K> {
         ensures sink { result.sink.ghost_name ≡ sink.entry.ghost_name }
         ensures takes { result.sink.now ≡ sink.old }
         ensures waiting { result.waiting.items ≡ [] }
-        ensures at_once { result.at_once ≡ at_once }
+        ensures answer_time { result.answer_time ≡ answer_time }
     {
         OctetLine {
             reader,
             source,
             waiting: OutputBuffer::new(),
-            at_once,
+            answer_time,
             sink,
         }
     }
@@ -144,11 +151,11 @@ impl<'a, S: Source, K: Sink> OctetLine<'a, S, K> {
         requires writes { CanCount (K.tells self.old.sink.now).failures }
         ensures puts { Puts (K.tells self.old.sink.now) (K.tells self.new.sink.now) self.new.waiting.items
             self.old.waiting.items result }
-        ensures few { OnOk result (length self.new.waiting.items ≤ most_waiting self.old.at_once) }
+        ensures few { OnOk result (length self.new.waiting.items ≤ most_waiting self.old.answer_time) }
         ensures sink { self.new.sink.ghost_name ≡ self.old.sink.ghost_name }
         ensures others { self.new ≡ record self.old { waiting = self.new.waiting; sink = self.new.sink } }
     {
-        if self.at_once {
+        if self.answer_time == AnswerTime::AtOnce {
             return flush(self.sink, &mut self.waiting);
         }
         prove!(self.waiting.len() <= self.waiting.capacity());
@@ -160,7 +167,7 @@ impl<'a, S: Source, K: Sink> OctetLine<'a, S, K> {
         requires writes { CanCount (K.tells self.old.sink.now).failures }
         ensures puts { Puts (K.tells self.old.sink.now) (K.tells self.new.sink.now) self.new.waiting.items
             (self.old.waiting.items ++ octets.now) result }
-        ensures few { OnOk result (length self.new.waiting.items ≤ most_waiting self.old.at_once) }
+        ensures few { OnOk result (length self.new.waiting.items ≤ most_waiting self.old.answer_time) }
         ensures sink { self.new.sink.ghost_name ≡ self.old.sink.ghost_name }
         ensures others { self.new ≡ record self.old { waiting = self.new.waiting; sink = self.new.sink } }
     {
@@ -188,7 +195,7 @@ impl<'a, S: Source, K: Sink> Line for OctetLine<'a, S, K> {
     ghost output = { λ l. record { sink = K.tells l.sink.now; waiting = l.waiting.items } };
 
     ghost terms = { λ l. record {
-      late = most_waiting l.at_once;
+      late = most_waiting l.answer_time;
       lent = (l.source.ghost_name, l.sink.ghost_name);
     } };
 

@@ -13,7 +13,9 @@ use crate::processing::process_records;
 use crate::receive_room::ReceiveRoom;
 use crate::tape::Tape;
 use crate::watch::Watch;
-use gw_records::{AcceptedKinds, Line, OctetLine, Ports, Reader, RunFault, Sink, Source, Totals};
+use gw_records::{
+    AcceptedKinds, AnswerTime, Line, OctetLine, Ports, Reader, RunFault, Sink, Source, Totals,
+};
 use gw_switch::Gateway;
 use std::alloc::Global;
 
@@ -69,7 +71,7 @@ pub fn serve<S: Source, P: Ports, K: Sink>(
     let Ok(mut reader) = Reader::new(alloc) else {
         return Err(RunFault::OutOfMemory);
     };
-    let mut line = OctetLine::new(&mut reader, source, sink, true);
+    let mut line = OctetLine::new(&mut reader, source, sink, AnswerTime::AtOnce);
     let held = HeldPackets::none(alloc);
     serve_holding(
         alloc,

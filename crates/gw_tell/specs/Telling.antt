@@ -75,9 +75,9 @@ pub record LetsIn (gateway : Gateway) (t t' : Teller) : Type 0 where
   pub all : LetAllIn gateway streams t last
   pub ends : ((length streams ≡ 8) × (t' ≡ last)) ⊎ ((length streams < 8) × AsksDoor last t')
 
--- clients are looked at behind a record of the trunk: behind each if there is none, else once in 8,192 octets
+-- clients are looked at behind a record of the trunk: behind each of the first 8,192 octets, then once in so many
 abbrev pub IsLook : Record → ℕ → Teller → Type 0
-IsLook (Record.Trunk octets) before t = AllFree t.places ⊎ (before / 8192 ≢ t.place / 8192)
+IsLook (Record.Trunk octets) before t = (before < 8192) ⊎ (before / 8192 ≢ t.place / 8192)
 IsLook _ before t = ⊥
 
 -- Those who have left are disconnected, and then new clients are let in.

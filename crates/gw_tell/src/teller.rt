@@ -65,19 +65,6 @@ fn tell_all(places: &mut [ClientSlot; 8], text: &[u8], front: usize, at: u64)
     }
 }
 
-// Whether all places for clients are free.
-fn are_free(places: &[ClientSlot; 8]) -> bool
-    ensures free { result ≡ true → AllFree places.now }
-    ensures taken { result ≡ false → AllFree places.now → ⊥ }
-{
-    for place in 0..MOST_CLIENTS {
-        if places[place].client.is_some() {
-            return false;
-        }
-    }
-    true
-}
-
 // The first place without a client, if there is one.
 fn free_place(places: &[ClientSlot; 8]) -> Option<usize>
     ensures some { IfSome result (λ place. (place < 8) × (at places.now place ≡ None)) }
@@ -197,7 +184,7 @@ impl Teller {
     }
 
     // Whether clients are looked at behind a record that began at this place: if it is of the trunk, each
-    // time if there is none, else each 32 ms. (For each call of accept the system makes a socket, also if
+    // time in the first 32 ms, then each 32 ms. (For each call of accept the system makes a socket, also if
     // nobody waits: each 8 ms this took 5 % of the program's time.)
     fn is_look(&self, head: &RecordHead, before: u64) -> bool
         ensures is { (body : List ℕ) → result ≡ true → IsLook (named head.now body) before self.now }
@@ -205,7 +192,7 @@ impl Teller {
             → IsLook (named head.now body) before self.now → ⊥ }
     {
         match head {
-            RecordHead::Trunk => are_free(&self.places) || before / LOOK != self.place / LOOK,
+            RecordHead::Trunk => before < LOOK || before / LOOK != self.place / LOOK,
             _ => false,
         }
     }

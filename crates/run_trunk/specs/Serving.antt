@@ -10,10 +10,11 @@ use Rattle.gw_records.specs.declared.outcome.RunFault.{RunFault}
 use Rattle.gw_records.specs.declared.outcome.RunFault.TheVariants.{Read, Write, OutOfMemory}
 use Rattle.gw_records.specs.Octets.{octet_of_command, octet_of_codec}
 use Rattle.gw_records.specs.Line.{Input, Output, Terms}
+use Rattle.gw_records.specs.Ports.{PortsState}
 use Rattle.gw_records.specs.Records.{Record}
 use Rattle.gw_records.specs.Streams.{SourceState, SinkState}
 use Rattle.gw_session.specs.Answers.{written_out, answers, events}
-use Rattle.gw_session.specs.Serve.{SessionStreams, ServesAll, ServesUntil, octets_for}
+use Rattle.gw_session.specs.Serve.{SessionStreams, ServesAll, ServesUntil, around_log, octets_for}
 use Rattle.gw_session.specs.ServeLaws.{without_datagrams}
 use Rattle.gw_session.specs.Tape.{TapeState, Recorded}
 use Rattle.gw_session.specs.World.{IsNew}
@@ -31,6 +32,10 @@ pub record IsUntouched (input : Input) (output : Output) (terms : Terms) : Type 
   pub unread : IsUnread input.source
   pub untaken : IsUntaken output.sink
   pub new : IsNew input output terms
+
+-- the streams of a session at a line
+abbrev pub around_line : Input → Output → PortsState → TapeState → SessionStreams
+around_line input output = around_log input.source output.sink
 
 -- events but for octets and datagrams
 abbrev pub commands_in : List Event → List Event

@@ -9,8 +9,8 @@ pub returns : goal.returns
 returns g c =
     let holds = ap (λ (h : HeldPackets). h.holds) c.new-session.ensures.held ∙ c.none.ensures in
     let new = c.new-line.ensures in
-    let ok = rw (holds, new.gives, new.takes, new.at_once) at c.process_records.ensures.ok in
-    let fault = rw (holds, new.gives, new.takes, new.at_once) at c.process_records.ensures.fault in
+    let ok = rw (holds, new.gives, new.takes, new.answer_time) at c.process_records.ensures.ok in
+    let fault = rw (holds, new.gives, new.takes, new.answer_time) at c.process_records.ensures.fault in
     let terms = c.process_records.ensures.terms in
     let gave = c.source-1.given.1 (sym (ap (λ (t : Terms). t.lent.0) terms ∙ new.source)) in
     let took = c.sink-1.given.1 (sym (ap (λ (t : Terms). t.lent.1) terms ∙ new.sink)) in

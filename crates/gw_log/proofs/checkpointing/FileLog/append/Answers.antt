@@ -1,6 +1,6 @@
 use Rattle.std.proofs.Common.{inl, inr, refl, sym, ◌∙◌}
 use Rattle.gw_log.proofs.Keeping.{ends_broken, left_still}
-use Rattle.gw_log.proofs.file_log.FileLog.append.Goals as goal
+use Rattle.gw_log.proofs.checkpointing.FileLog.append.Goals as goal
 
 pub returns-then-self : goal.returns-then-self
 returns-then-self g c = inl (rw (← c.self.view_is) c.if-self.true, refl)

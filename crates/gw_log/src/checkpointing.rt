@@ -1,9 +1,9 @@
-//! A state of a gateway, and the records behind it, in files (`FileLog`).
+//! When a checkpoint of a gateway is written to files, and records are appended behind it (`FileLog`).
 
 ghost use Rattle.std.specs.Prelude.{◌≡◌, ◌+◌, [], false, true, IfErr, OnOk};
 ghost use Rattle.gw_log.specs.Logs.{Appended, CanAppend, Checkpointed, Shown, Uncheckpointed};
 
-use crate::checkpoint::checkpoint_of;
+use crate::checkpoint_octets::checkpoint_of;
 use gw_records::Log;
 use gw_switch::{Gateway, GatewayConfig};
 use log_files::{LogFiles, Store};
