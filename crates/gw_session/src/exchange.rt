@@ -88,7 +88,7 @@ pub struct SessionBuffers {
 }
 
 impl SessionBuffers {
-    ghost use Rattle.std.specs.Prelude.{◌≡◌, ◌+◌, ◌<◌, ◌≤◌, ◌^◌, [], length, true};
+    ghost use Rattle.std.specs.Prelude.{◌≡◌, ◌+◌, ◌<◌, ◌≤◌, ◌^◌, ◌∷◌, ◌++◌, [], length, take, drop, map, true};
     ghost use Rattle.std.specs.Prelude.{◌&&◌, nat_le, vec_capacity, IfSome};
     ghost use Rattle.gw_records.specs.Outcome.{nothing_counted};
     ghost use Rattle.gw_records.specs.Ports.{KeepsSends};
@@ -98,7 +98,7 @@ impl SessionBuffers {
     ghost use Rattle.gw_session.specs.Exchange.{ComesInTurn, ExchangingAll, HearsOctet, IsSilent, body_of};
     ghost use Rattle.gw_session.specs.Exchange.{packets_held};
     ghost use Rattle.gw_session.specs.Hearing.{HearsAll, HearsOn};
-    ghost use Rattle.gw_session.specs.Tape.{taping};
+    ghost use Rattle.gw_session.specs.Tape.{Batches, taping};
     ghost use Rattle.gw_session.specs.World.{state_with, world_in, world_with};
 
     /// Before the first record.
@@ -168,13 +168,59 @@ impl SessionBuffers {
     {
         let out = gateway.octet_into(octet, &mut self.datagram);
         self.answer.push(out.octet);
+        let circuit = out.circuit?;
         if !self.holding {
-            return out.circuit;
+            return Some(circuit);
         }
-        if let Some(circuit) = out.circuit {
-            self.held.push(circuit, &self.datagram);
-        }
+        self.held.push(circuit, &self.datagram);
         None
+    }
+
+    // Puts the datagram of `n` octets that stands in the room into the batch, behind the octets that were heard,
+    // gives it to the gateway and shows it to the watch. Returns 0 or the number of the refusal. (It is apart, so
+    // that an octet with which none comes saves no registers for it.)
+    #[inline(never)]
+    fn take_datagram<T: Tape, W: Watch>(
+        &mut self,
+        gateway: &mut Gateway,
+        circuit: CircuitNo,
+        n: usize,
+        heard: &[u8],
+        observers: &mut Observers<T, W>,
+    ) -> u8
+        requires short { length heard.now < 2 ^ 16 }
+        requires within { self.old.recorded ≤ length heard.now }
+        requires fits { n ≤ length self.old.room.octets.value }
+        ensures batches { Batches (taping (T.tells observers.old.tape) self.old.batch.items)
+            (taping (T.tells observers.new.tape) self.new.batch.items)
+            (map Event.Octet (drop self.old.recorded heard.now)
+            ++ Event.Given circuit (Datagram (take n self.old.room.octets.value)) ∷ []) }
+        ensures given { IsGiven gateway.old gateway.new self.old.totals self.new.totals
+            ((circuit, take n self.old.room.octets.value) ∷ []) }
+        ensures dropped { self.new.totals
+            ≡ record self.old.totals { dropped = self.new.totals.dropped } }
+        ensures shown { AreShown W.shows gateway.old observers.old.watch observers.new.watch
+            (length heard.now) (Event.Given circuit (Datagram (take n self.old.room.octets.value)) ∷ []) }
+        ensures others { self.new ≡ record self.old {
+          totals = self.new.totals;
+          recorded = length heard.now;
+          batch = self.new.batch;
+        } }
+    {
+        let room = &self.room;
+        let octets = &room.octets[..n];
+        let fresh = &heard[self.recorded..];
+        batch_arrival(&mut observers.tape, &mut self.batch, fresh, circuit, octets);
+        self.recorded = heard.len();
+        let watch = &mut observers.watch;
+        give_shown(
+            gateway,
+            heard.len(),
+            circuit,
+            octets,
+            &mut self.totals,
+            watch,
+        )
     }
 
     // Receives the datagrams that wait at the circuit whose slot the next octet sends, four at most, puts
@@ -212,14 +258,7 @@ impl SessionBuffers {
         'receiving: for _turn in 0..MOST_DATAGRAMS {
             match packet_ports.receive_datagram(circuit, self.room.octets.as_mut_slice()) {
                 Ok(Some(n)) => {
-                    let fresh = &heard[self.recorded..];
-                    let room = &self.room;
-                    let octets = &room.octets[..n];
-                    batch_arrival(&mut observers.tape, &mut self.batch, fresh, circuit, octets);
-                    self.recorded = heard.len();
-                    let totals = &mut self.totals;
-                    let watch = &mut observers.watch;
-                    let code = give_shown(gateway, heard.len(), circuit, octets, totals, watch);
+                    let code = self.take_datagram(gateway, circuit, n, heard, observers);
                     packet_ports.judge_datagram(circuit, code == 0);
                 }
                 Ok(None) => return,

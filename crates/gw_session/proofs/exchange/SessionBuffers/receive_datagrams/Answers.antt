@@ -1,5 +1,6 @@
-use Rattle.gw_session.proofs.Common.{◌≡◌, inl, inr, ◌<◌, ◌++◌, ◌∷◌, [], refl, length, take, arith, ◌-◌, drop}
-use Rattle.gw_session.proofs.Common.{length-append, take_rest, Stop, rules}
+use Rattle.gw_session.proofs.Common.{◌≡◌, inr, ◌<◌, ◌++◌, ◌∷◌, [], ap, inl, refl, length, take, arith}
+use Rattle.gw_session.proofs.Common.{length-append, Stop, rules}
+use Rattle.gw_session.specs.declared.exchange.SessionBuffers.{SessionBuffers}
 use Rattle.gw_session.proofs.Turns.{Extends-none}
 use Rattle.gw_session.proofs.Receiving.{receiving_none, receiving_more, shown_next, comes_so, comes_nothing}
 use Rattle.gw_session.proofs.Taping.{behind_none, behind_more}
@@ -19,25 +20,20 @@ receiving-init g c = record {
 pub receiving-preserved : goal.receiving-preserved
 receiving-preserved g c =
     let w = c.receiving.invariant.receiving in
-    let recorded = c.receiving.self.recorded in
     let items = c.receive_datagram.new.room in
     let n = c.in-Ok-Some.n in
     let r = rw c.in-Ok-Some.field-0-is at c.in-Ok-Some.ensures.receives in
-    let said = rw c.deref.ensures at c.batch_arrival.ensures.batches in
-    let given = rw c.deref.ensures at c.give_shown-code.ensures.given in
-    let shown = rw c.deref.ensures at c.give_shown-code.ensures.shown in
-    let fresh : take (length c.args.heard.now - recorded) (drop recorded c.args.heard.now)
-    ≡ drop recorded c.args.heard.now = take_rest c.args.heard.now recorded in
+    let took = c.take_datagram-code.ensures in
+    let all = ap (λ (s : SessionBuffers). s.recorded) took.others in
     rw c.judge_datagram.ensures
     record {
       receiving = (
         w.0 ++ take n items ∷ [],
         omega (arith, w.1, length-append w.0 (take n items ∷ [])),
         receiving_more _ (take n items) w.2 r.0 r.1 r.2 c.in-Ok-Some.ensures.counts
-            c.receive_datagram.ensures.sends_stay given
-            c.give_shown-code.ensures.others refl,
-        behind_more _ _ _ _ _ _ _ _ _ w.0 _ w.3 fresh refl said,
-        shown_next w.0 (take n items) w.2 w.4 shown,
+            c.receive_datagram.ensures.sends_stay took.given took.dropped refl,
+        behind_more _ _ _ _ _ _ _ _ _ w.0 _ w.3 refl all took.batches,
+        shown_next w.0 (take n items) w.2 w.4 took.shown,
       );
       others = search rules;
     }
