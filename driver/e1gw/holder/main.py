@@ -13,7 +13,9 @@ from ..holder_state import plain_in
 from ..lock import InUse, hold, let_go
 from .decisions import Beginning, beginning_of, is_active
 from .holder import Holder
-from .job import Job, why_not
+from .job import Job
+from .job_types import JobRequest
+from .note import HolderNote
 from .journal import NAME, Severity, log_line
 from .lifecycle import LOST, finish
 from .line import HeldLine
@@ -90,13 +92,13 @@ def begin(holder: Holder) -> None:
     """Goes on where the holder before this one has left, or from what was saved, or anew."""
     store, options, log = holder.store, holder.options, f'{holder.folder}/log'
     has_log, before = is_there(log) or bool(holder.log.files), plain_in(f'{holder.folder}/holder')
-    how = beginning_of('child' in store.was, has_log, options.is_saved and os.path.exists(options.state))
+    how = beginning_of(store.was is not None, has_log, options.is_saved and os.path.exists(options.state))
     holder.is_active = is_active(options.is_standby, before.get('role', ''), bool(holder.line.files))
     holder.why, holder.was_up = str(how.value), how in (Beginning.REPLACED, Beginning.KILLED)
     if version := version_left(holder, how):
         holder.versions.switch_to(version)
-    if how is Beginning.REPLACED:
-        resume_replaced(holder)
+    if store.was:
+        resume_replaced(holder, store.was)
     elif how is Beginning.KILLED:
         holder.silent -= silence_of(log)
         holder.lost = LOST if has_died(holder.folder) else ''
@@ -141,18 +143,18 @@ def watcher_of(options: Options, store: Store, loop: Loop) -> WatcherChild | Non
     path = os.path.join(os.path.dirname(os.path.abspath(sys.argv[0])), 'e1gw-watch')
     watcher = WatcherChild([path, '--config', options.config, '--name', options.name, '--program', options.program,
                             '--folder', os.path.dirname(options.folder), *options.watch], loop)
-    if pid := store.was.get('watcher'):
-        watcher.take_up(pid)
+    if store.was and store.was.watcher:
+        watcher.take_up(store.was.watcher)
     return watcher
 
 
-def resume_replaced(holder: Holder) -> None:
+def resume_replaced(holder: Holder, was: HolderNote) -> None:
     """This process was another holder, whose child and descriptors it has."""
-    was, files = holder.store.was, holder.store.files
-    holder.program = HeldProgram(was['child'], holder.loop, files.pop('leash'), files.pop('said'))
-    holder.since = was['since']
-    holder.line.take_up(was['line'])
-    log_line(Severity.NOTICE, f'{holder.why}: program {was["child"]} goes on')
+    files = holder.store.files
+    holder.program = HeldProgram(was.child, holder.loop, files.pop('leash'), files.pop('said'))
+    holder.since = was.since
+    holder.line.take_up(was.line)
+    log_line(Severity.NOTICE, f'{holder.why}: program {was.child} goes on')
 
 
 def has_died(folder: str) -> bool:
@@ -166,6 +168,6 @@ def has_died(folder: str) -> bool:
 
 def load(holder: Holder) -> None:
     """Begins with the state that was saved."""
-    asked = {'what': 'load', 'state': holder.options.state, 'log': f'{holder.folder}/log'}
-    if why := why_not(Job(asked).wait()):
+    asked = JobRequest('load', state=holder.options.state, log=f'{holder.folder}/log')
+    if why := Job(asked).wait().why_not:
         finish(holder, f'the state is not loaded: {why}', 1)

@@ -128,7 +128,7 @@ class SaidLine:
 
     def _unheard(self) -> int:
         """Datagrams that no socket takes. (Those of a far end at this machine may be our own.)"""
-        _, far, *_ = begun_in(self._satop.path).get('words') or ('', '')
+        _, far, *_ = begun_in(self._satop.path).words or ('', '')
         return unheard() if far and not is_here(far) else 0
 
     def on_close(self) -> None:
