@@ -8,8 +8,9 @@ import threading
 from collections import deque
 from contextlib import suppress
 from dataclasses import dataclass
+from io import TextIOWrapper
 from itertools import takewhile
-from typing import Any, Callable, TextIO
+from typing import Callable, TextIO
 
 from .writers import append_line, open_to_append, write_all
 
@@ -55,7 +56,7 @@ class LineFile(logging.handlers.RotatingFileHandler):
             first = file.readline().rstrip('\n')
         return first != self._head and first.partition(',')[0] == self._head.partition(',')[0]
 
-    def _open(self) -> Any:
+    def _open(self) -> TextIOWrapper:
         stream = open(open_to_append(self.baseFilename, not self._is_again), 'a', encoding='utf-8')
         if self._head and os.fstat(stream.fileno()).st_size == 0:
             append_line(stream.fileno(), self._head)

@@ -6,7 +6,7 @@ import ipaddress
 import os
 import ssl
 from collections import Counter
-from typing import TYPE_CHECKING, Any, Collection, Mapping, TypeVar
+from typing import TYPE_CHECKING, Collection, Mapping, TypeVar
 
 from e1gw_common.faults import words_of_fault
 from .events import NoConnection
@@ -69,7 +69,7 @@ class Site:
         self._tie, self._tell = tie, tie.tell
         self._writer: asyncio.StreamWriter | None = None    # the present connection
         self._run = self._address = ''                      # the program at its other end; the address of the last one
-        self._strangers: dict[asyncio.Task[Any], str] = {}  # the address of each, the oldest first
+        self._strangers: dict[asyncio.Task[None], str] = {}  # the address of each, the oldest first
         self._reasons = Reasons()
 
     def send(self, message: Message) -> None:

@@ -11,13 +11,13 @@ from collections import Counter
 from contextlib import contextmanager, suppress
 from dataclasses import dataclass, field
 from enum import Enum
-from typing import Any, Callable, Collection, Container, Coroutine, Iterable, Iterator, Mapping
+from typing import Callable, Collection, Container, Iterable, Iterator, Mapping
 
 from e1gw_common.answers import DONE, CommandAnswer, refused
 from e1gw_common.faults import words_of_fault
 from e1gw_common.lines import IN_CALL, Line, Role, State, circuit_words
 from e1gw_common.session import CIRCUITS, Command, CommandRefusal
-from e1gw_common.tasks import Tasks
+from e1gw_common.tasks import Tasks, Work
 from e1gw_common.writers import put_file
 from ..events import BlockNews, CallsCleared, CircuitsBlocked, Tell
 from .tell_lines import TrunkState
@@ -121,7 +121,7 @@ class BlockWatch:
     """Sees to these circuits. `give` gives a command and returns its answer; `tell` reports."""
 
     def __init__(self, kept: KeptBlocks, lines: TrunkState,
-                 give: Callable[[int, Command], Coroutine[Any, Any, CommandAnswer]], tell: Tell) -> None:
+                 give: Callable[[int, Command], Work[CommandAnswer]], tell: Tell) -> None:
         self.kept, self._state, self._give, self._tell = kept, lines, give, tell
         self._busy, self._blocks = Counter[int](), Tasks()
 
