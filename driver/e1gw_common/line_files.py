@@ -123,10 +123,10 @@ class EventFile:
             puts = self._opened = self._opened or self._open()
             for line in lines:
                 puts.append(line)
-            self._tell(None)
+            self._report_state(None)
             return True
         except OSError as fault:
-            self._tell(fault.strerror or str(fault))
+            self._report_state(fault.strerror or str(fault))
             if self._opened:
                 self._opened.close()
             self._opened = None
@@ -136,7 +136,7 @@ class EventFile:
         is_again = self._why is not None
         return LineFile(self._file, self._head, is_again) if isinstance(self._file, str) else LineStream(self._file)
 
-    def _tell(self, why: str | None) -> None:
+    def _report_state(self, why: str | None) -> None:
         """Tells why it fails, once, or that it goes on."""
         before, self._why = self._why, why
         if bool(why) is not bool(before):
@@ -149,7 +149,7 @@ class EventFile:
                 self.waiting.append(line)
                 self._changed.notify()
         if not has_room:
-            self._tell('it takes too little')
+            self._report_state('it takes too little')
 
     def close(self) -> None:
         """Waits until all is written, FLUSH at most; what has failed is tried once more."""

@@ -205,11 +205,11 @@ class FeedTests(support.LoopCase):
         left, found = iter(rows), list[str]()
         its: TrunkStandby
 
-        def came(_: asyncio.StreamReader, writer: asyncio.StreamWriter) -> None:
+        def serve_standby(_: asyncio.StreamReader, writer: asyncio.StreamWriter) -> None:
             found.append(its.why)
             writer.write(next(left, (b'', ''))[0])
             writer.close()
-        server = await asyncio.start_server(came, HOST, 0)
+        server = await asyncio.start_server(serve_standby, HOST, 0)
         self.addCleanup(server.close)
         self.place = server.sockets[0].getsockname()
         its = self.stands_by()
@@ -400,7 +400,7 @@ class StandbyTests(support.LoopCase):
         its.publish(None)
         self.assertEqual((os.listdir(self.folder), self.held()), ([], []))
 
-    async def said(self, *words: int) -> tuple[float, list[bool]]:
+    async def last_words(self, *words: int) -> tuple[float, list[bool]]:
         """What it says last, and whether it gives the trunk back, if the other machine has said this and leaves."""
         handed, reader, writer = list[bool](), asyncio.StreamReader(), mock.Mock()
         writer.is_closing.return_value = False
@@ -414,9 +414,9 @@ class StandbyTests(support.LoopCase):
     async def test_what_the_other_machine_says(self) -> None:
         """One that stood still would carry it beside the machine that had taken it back. One that dies takes nothing
         back."""
-        self.assertEqual([await self.said(BACK), await self.said()], [(TAKES, [False]), (CARRIES, [])])
+        self.assertEqual([await self.last_words(BACK), await self.last_words()], [(TAKES, [False]), (CARRIES, [])])
 
-    async def told(self, carried: bool, leaves: bool) -> list[bytes]:
+    async def words_to_standby(self, carried: bool, leaves: bool) -> list[bytes]:
         """What a machine says to the standby to which it hands the trunk over, if that carries it, or leaves, or is
         silent."""
         its, left = FeedServer('', mock.Mock()), asyncio.Future[None]()
@@ -432,4 +432,5 @@ class StandbyTests(support.LoopCase):
         """It says so within a second, if the standby does not say that it carries the trunk."""
         for carried, leaves in (False, False), (False, True), (True, False):
             with self.subTest(carried=carried, leaves=leaves):
-                self.assertEqual(await self.told(carried, leaves), [] if carried else [PIECE.pack(0.0, BACK)])
+                self.assertEqual(await self.words_to_standby(carried, leaves),
+                                 [] if carried else [PIECE.pack(0.0, BACK)])

@@ -37,7 +37,7 @@ class TrialTests(support.FolderCase):
 
     def answer(self, **more: Any) -> JobAnswer:
         """By a process of its own."""
-        return Job(self.asked(**more), [self.file]).wait()
+        return Job(self.asked(**more), [self.file]).wait_for_answer()
 
     def tried(self) -> Tried:
         found = self.answer()
@@ -91,13 +91,14 @@ class TrialTests(support.FolderCase):
     def test_one_that_dies(self) -> None:
         """Nothing waits for it."""
         job = Job(JobRequest('x'))
-        self.assertEqual(job.wait(), JobAnswer(later="'x'"))
+        self.assertEqual(job.wait_for_answer(), JobAnswer(later="'x'"))
         with mock.patch('e1gw.holder.job.PYTHON', 'import os; os.kill(os.getpid(), 9)'):
-            self.assertEqual(Job(JobRequest('try')).wait(), JobAnswer(later='it is not tried to its end'))
+            self.assertEqual(Job(JobRequest('try')).wait_for_answer(), JobAnswer(later='it is not tried to its end'))
         with mock.patch.multiple('e1gw.holder.job', PYTHON='import time; time.sleep(900)', PATIENCE=0.2):
-            self.assertEqual(Job(JobRequest('try')).wait(), JobAnswer(later='it is not tried to its end'))
+            self.assertEqual(Job(JobRequest('try')).wait_for_answer(), JobAnswer(later='it is not tried to its end'))
         with mock.patch('os.posix_spawn', side_effect=OSError(11, 'Resource temporarily unavailable')):
-            self.assertEqual(Job(JobRequest('try')).wait(), JobAnswer(later='Resource temporarily unavailable'))
+            self.assertEqual(Job(JobRequest('try')).wait_for_answer(),
+                             JobAnswer(later='Resource temporarily unavailable'))
 
     def test_states(self) -> None:
         """A log begins with one, and one is saved of a log; whole."""

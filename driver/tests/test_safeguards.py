@@ -88,7 +88,7 @@ class HostTests(unittest.IsolatedAsyncioTestCase):
         """systemd kills who gives none."""
         its = mock.Mock(watcher=None, program=None, versions=mock.Mock(trial=None))
         held.Holder._tick(its, 1.0)
-        its.store.tell.assert_called_once_with('WATCHDOG=1')
+        its.store.send_message.assert_called_once_with('WATCHDOG=1')
 
     async def test_who_draws_is_behind_the_calls(self) -> None:
         behind, process = mock.Mock(), mock.Mock(pid=7)

@@ -37,7 +37,7 @@ class Job:
         if wants >= 0:
             os.close(wants)
 
-    def look(self) -> JobAnswer | None:
+    def poll_answer(self) -> JobAnswer | None:
         """Its answer, once, if it has one; of one that cannot be started, dies or takes too long why it is refused."""
         if self._pid > 0 and os.waitpid(self._pid, os.WNOHANG)[0]:
             self._pid = -1                  # (from now on its number may be another one's)
@@ -50,9 +50,9 @@ class Job:
         finally:
             self.end()
 
-    def wait(self) -> JobAnswer:
+    def wait_for_answer(self) -> JobAnswer:
         """Waits for its answer."""
-        while (found := self.look()) is None:
+        while (found := self.poll_answer()) is None:
             time.sleep(SOON)
         return found
 

@@ -278,6 +278,6 @@ def save(holder: Holder) -> bool:
         return False
     asked = JobRequest('save', program=version.program, config=version.its.config(), state=holder.options.state,
                        log=f'{holder.folder}/log', wait=holder.options.wait)
-    if why := Job(asked, [version.program]).wait().why_not:
+    if why := Job(asked, [version.program]).wait_for_answer().why_not:
         log_line(Severity.ERROR, f'the state is not saved, and the log stays: {why}')
     return not why

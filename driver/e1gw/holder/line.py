@@ -63,7 +63,7 @@ class HeldLine:
     def is_opening(self) -> bool:
         return self._thread is not None
 
-    def look(self, now: float) -> bool:
+    def try_to_open(self, now: float) -> bool:
         """To be called while it is not open: whether it has come to be known that it can or cannot be."""
         if self._thread is None and now >= self._openings.due:
             self._found, self._thread = None, threading.Thread(target=self._work, daemon=True)
@@ -124,7 +124,7 @@ class HeldLine:
         """What the process has to know that this one becomes, which has all descriptors."""
         return HeldLineNote(self.since)
 
-    def take_up(self, note: HeldLineNote) -> None:
+    def restore_note(self, note: HeldLineNote) -> None:
         """The reverse."""
         self.since = note.since
 

@@ -10,7 +10,7 @@ from typing import NoReturn
 from e1gw_common.fault_words import options_words, words_of_fault
 from e1gw_common.writers import hold_descriptors
 from ..holder_state import plain_in
-from ..lock import InUse, hold, let_go
+from ..lock import InUse, release_lock, take_lock
 from .decisions import Beginning, beginning_of, is_active
 from .holder import Holder
 from .job import Job
@@ -60,7 +60,7 @@ def main(words: list[str] | None = None) -> NoReturn:
     begin(holder)
     holder.watcher = watcher_of(options, store, loop)
     status = holder.run()
-    let_go(holder.lock, f'{options.folder}.lock')
+    release_lock(holder.lock, f'{options.folder}.lock')
     end(status, store)
 
 
@@ -75,7 +75,7 @@ def lock_trunk(folder: str, store: Store) -> int:
     """The lock of the trunk, whose folder nobody else can write to. InUse says who has it; OSError if it cannot be
     had."""
     os.makedirs(os.path.dirname(folder), exist_ok=True)
-    lock = store.files.pop('lock') if 'lock' in store.files else hold(f'{folder}.lock')
+    lock = store.files.pop('lock') if 'lock' in store.files else take_lock(f'{folder}.lock')
     make_own(folder)
     return lock
 
@@ -105,7 +105,7 @@ def begin(holder: Holder) -> None:
         if 'DSCP' in os.environ:            # (it marks what this cgroup has opened, and that of before is gone)
             holder.sockets.close_others(())
             store.keep(holder.descriptors_to_store())
-            store.let_go()
+            store.wait_until_closed()
         if holder.line.files:
             holder.line.since = before.get('opened', holder.line.since)
     elif how is Beginning.SAVED:
@@ -144,7 +144,7 @@ def watcher_of(options: Options, store: Store, loop: Loop) -> WatcherChild | Non
     watcher = WatcherChild([path, '--config', options.config, '--name', options.name, '--program', options.program,
                             '--folder', os.path.dirname(options.folder), *options.watch], loop)
     if store.was and store.was.watcher:
-        watcher.take_up(store.was.watcher)
+        watcher.adopt_child(store.was.watcher)
     return watcher
 
 
@@ -153,7 +153,7 @@ def resume_replaced(holder: Holder, was: HolderNote) -> None:
     files = holder.store.files
     holder.program = HeldProgram(was.child, holder.loop, files.pop('leash'), files.pop('said'))
     holder.since = was.since
-    holder.line.take_up(was.line)
+    holder.line.restore_note(was.line)
     log_line(Severity.NOTICE, f'{holder.why}: program {was.child} goes on')
 
 
@@ -169,5 +169,5 @@ def has_died(folder: str) -> bool:
 def load(holder: Holder) -> None:
     """Begins with the state that was saved."""
     asked = JobRequest('load', state=holder.options.state, log=f'{holder.folder}/log')
-    if why := Job(asked).wait().why_not:
+    if why := Job(asked).wait_for_answer().why_not:
         finish(holder, f'the state is not loaded: {why}', 1)

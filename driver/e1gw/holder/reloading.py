@@ -55,9 +55,9 @@ class Reloads:
         """Tries the program and the configuration of now; a program of them follows if they will do."""
         holder = self._holder
         if holder.ending:
-            return request.refused('the end is asked for')
+            return request.answer_refused('the end is asked for')
         if self.is_busy or not holder.versions.now:
-            return request.refused('one is tried already', 'busy')
+            return request.answer_refused('one is tried already', 'busy')
         holder.store.notify('RELOADING=1', f'MONOTONIC_USEC={time.monotonic_ns() // 1000}')
         self._try(request, holder.versions.now)
 
@@ -77,9 +77,9 @@ class Reloads:
         """What is known of the trunk."""
         return f'{self._holder.folder}/{"log" if self._holder.is_active else "fed"}'
 
-    def look(self, now: float) -> None:
+    def follow_trial(self, now: float) -> None:
         """Does what follows a trial."""
-        found = self._job.look() if self._job else None
+        found = self._job.poll_answer() if self._job else None
         if found is None:
             return
         request, self._job = self._request, None
@@ -102,7 +102,7 @@ class Reloads:
         holder.publish()
         if request.word == 'reload':
             holder.store.notify('READY=1')
-        request.done()
+        request.answer_done()
 
     def _switch_to(self, request: HolderRequest, version: Version, told: str, now: float) -> None:
         """A program of this version follows."""
@@ -128,7 +128,7 @@ class Reloads:
         if request.word != 'begin':
             log_line(Severity.ERROR, f'reload: refused, the trunk goes on as it was: {why}')
             holder.store.notify('READY=1')
-            return request.refused(f'the trunk goes on as it was: {why}')
+            return request.answer_refused(f'the trunk goes on as it was: {why}')
         if not holder.was_up and (found.refused or not holder.options.line.reopens):
             return finish(holder, why, 2 if found.refused else 1)
         if why != self._said:
@@ -167,5 +167,5 @@ class Reloads:
         """Ends what is tried."""
         if self._job:
             self._job.end()
-            self._request.refused('the trunk has ended')
+            self._request.answer_refused('the trunk has ended')
         self._job = None

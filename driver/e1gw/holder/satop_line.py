@@ -166,8 +166,8 @@ class SatopLine(HeldLine):
     def note(self) -> HeldLineNote:
         return super().note()._replace(pid=self.pid, words=self._words, why=self._why)
 
-    def take_up(self, note: HeldLineNote) -> None:
-        super().take_up(note)
+    def restore_note(self, note: HeldLineNote) -> None:
+        super().restore_note(note)
         self._words, self._why = [*note.words], note.why
         if note.pid:
             self._child = Child(note.pid, self.loop, self._on_exit)

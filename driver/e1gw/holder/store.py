@@ -53,7 +53,7 @@ class Store:
         """Whether systemd listens, which begins another holder if this one ends."""
         return bool(self._path)
 
-    def tell(self, *lines: str, file: int = -1) -> bool:
+    def send_message(self, *lines: str, file: int = -1) -> bool:
         """Whether it was taken, or nobody listens. (systemd lets ten messages wait.)"""
         if not self._path:
             return True
@@ -82,18 +82,18 @@ class Store:
 
     def _is_sent(self) -> bool:
         while self._pending:
-            if not self.tell(self._pending[0]):
+            if not self.send_message(self._pending[0]):
                 return False
             self._pending.pop(0)
         its = self._wanted if self._path else {}
         for name in [name for name, known in self._kept.items() if name not in its or its[name][1] != known]:
-            if not self.tell('FDSTOREREMOVE=1', f'FDNAME={name}'):
+            if not self.send_message('FDSTOREREMOVE=1', f'FDNAME={name}'):
                 return False
             del self._kept[name]
         for name, (file, known) in its.items():
             if name in self._kept or identity(file) != known:       # (one that is closed is soon kept no more)
                 continue
-            if not self.tell('FDSTORE=1', f'FDNAME={name}', 'FDPOLL=0', file=file):
+            if not self.send_message('FDSTORE=1', f'FDNAME={name}', 'FDPOLL=0', file=file):
                 return False
             self._kept[name] = known
         return True
@@ -106,10 +106,10 @@ class Store:
             time.sleep(SOON)
             self.send()
 
-    def let_go(self) -> None:
+    def wait_until_closed(self) -> None:
         """systemd has closed what it is no longer to keep (sd_notify_barrier(3)), unless that takes too long."""
         (reads, writes), until = os.pipe(), time.monotonic() + HEARD
-        while (self.lags or not self.tell('BARRIER=1', file=writes)) and time.monotonic() < until:
+        while (self.lags or not self.send_message('BARRIER=1', file=writes)) and time.monotonic() < until:
             time.sleep(SOON)
             self.send()
         os.close(writes)

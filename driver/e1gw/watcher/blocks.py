@@ -138,7 +138,7 @@ class BlockWatch:
         finally:
             self._busy[circuit] -= 1
 
-    def look(self) -> None:
+    def block_due(self) -> None:
         """To be called at each change and now and then: blocks what is to be blocked, and tells what has changed."""
         if self.kept.now.circuits and self._state.live:
             self.kept.now, blocks, news = self.kept.now.block_next(self._state.lines, +self._busy)
@@ -155,7 +155,7 @@ class BlockWatch:
         finally:
             self._busy[n] -= 1
         if is_done:
-            self.look()
+            self.block_due()
 
     def _report(self, news: News) -> None:
         for what, circuits in news.items():
@@ -174,10 +174,10 @@ class BlockWatch:
         if ends:
             self._tell(CallsCleared('the operator blocks them', tuple(ends)))
             await asyncio.gather(*(self._give(n, command) for n, command in ends.items()))
-        self.look()
+        self.block_due()
         if self._blocks:
             await asyncio.wait(self._blocks, timeout=PATIENCE)
-        self.look()
+        self.block_due()
         left = circuit_words(self.kept.now.not_yet_blocked(circuits))
         told += [f'blocking, until their calls have ended: circuits {left}'] * bool(left)
         return DONE._replace(told=(*told,))

@@ -34,7 +34,7 @@ class CodecWatch:
             self.given[circuit] = line.seizures
             self._note()
 
-    def look(self) -> None:
+    def restore_codecs(self) -> None:
         """To be called at each change and now and then."""
         if self._state.live:
             for n in codecs_over(self._state.lines.values(), self.given):

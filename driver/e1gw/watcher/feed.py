@@ -194,7 +194,7 @@ class FeedServer:
     def _send_news(self, log: FolderReader, writer: asyncio.StreamWriter, now: float) -> bool:
         """Sends what the log has now; whether that is anything. EOFError if a part of it was written over."""
         self._say_blocks(writer)
-        news = log.look()
+        news = log.read_news()
         for each in news:
             if isinstance(each, LogBegun):
                 raise EOFError('it is too far behind')
