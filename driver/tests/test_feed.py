@@ -2,19 +2,21 @@
 from __future__ import annotations
 
 import asyncio
+import errno
 import json
 import math
 import os
+import shutil
 import socket
 import ssl
 import subprocess
 import threading
 import time
 import unittest
-from contextlib import nullcontext, suppress
+from contextlib import closing, nullcontext, suppress
 from itertools import accumulate
 from types import SimpleNamespace
-from typing import Sequence
+from typing import Callable, Sequence
 from unittest import mock
 
 from . import support
@@ -25,7 +27,7 @@ from e1gw.holder_state import TrunkPlaces
 from e1gw.watcher import standby
 from e1gw.watcher.blocks import BlockedCircuits, KeptBlocks
 from e1gw.watcher.feed import BACK, CARRIES, LENGTH, MARK, MOST_PIECE, PIECE, STATE, TAKES, FeedServer
-from e1gw.log_folder import STATE_ROOM, LogPair
+from e1gw.log_folder import STATE_ROOM, LogFiles, LogPair
 from e1gw.watcher.missed import pass_octets
 from e1gw.watcher.reader import LogReader
 from e1gw.watcher.standby import NO_CERTIFICATE, NO_TRUNK, FedLog, TrunkStandby
@@ -309,6 +311,36 @@ class FedLogTests(support.FolderCase):
         self.assertEqual((os.listdir(self.folder), len(self.held())), (['fed'], 5))
         second.close()
         self.assertEqual((os.listdir(self.folder), self.held()), ([], []))
+
+    def test_one_is_there_at_each_step(self) -> None:
+        """A holder that takes the trunk while another log comes in place of one finds a log, and so it does if the
+        watcher dies then; where folders cannot be exchanged, at the end."""
+        fed = TrunkPlaces(self.folder).fed
+        for fault in None, errno.EINVAL:
+            logs = [FedLog(self.folder, 0, 0) for _ in range(2)]
+            steps = list[tuple[str, bytes]]()
+
+            def stop_behind(name: str, call: Callable[..., object]) -> Callable[..., None]:
+                def step(*words: str, **more: bool) -> None:
+                    if name == 'exchange' and fault:
+                        raise OSError(fault, os.strerror(fault))
+                    call(*words, **more)
+                    with closing(LogFiles(fed)) as files:
+                        steps.append((name, (files.last() or LogPair(0, 0, b'', b'')).state))
+                return step
+            for state, each in zip((b'first', b'second'), logs):
+                each.begin(state)
+            logs[0].move_to(fed)
+            removes = mock.Mock(rmtree=stop_behind('remove', shutil.rmtree))
+            renames = os.rename if fault else stop_behind('rename', os.rename)
+            exchanges = stop_behind('exchange', standby.exchange_folders)
+            with mock.patch.multiple(standby, shutil=removes, exchange_folders=exchanges), \
+                    mock.patch.object(os, 'rename', renames):
+                logs[1].move_to(fed)
+            self.assertEqual(steps, [('exchange', b'second')] * (not fault) + [('remove', b'second')])
+            self.assertEqual(os.listdir(self.folder), ['fed'])
+            for each in logs:
+                each.close()
 
     def test_who_may_write(self) -> None:
         """This process, until it says that it writes no more; and not once somebody has taken it."""

@@ -169,10 +169,10 @@ class HeldLogTests(FolderCase):
         self.log = self.path('log')
         self.made()
 
-    def made(self) -> None:
+    def made(self, what: str = 'of') -> None:
         os.mkdir(self.log)
         for name in log.FILES:
-            self.write(f'log/{name}', f'of {name}')
+            self.write(f'log/{name}', f'{what} {name}')
 
     def test_put_back(self) -> None:
         """Whatever is gone of it: the folder, a file, or one that another is in place of."""
@@ -204,6 +204,22 @@ class HeldLogTests(FolderCase):
             held.put_back(self.log)
         self.assertEqual(os.listdir(self.folder), [])
         self.assertTrue(held.put_back(self.log))
+        held.close()
+
+    def test_all_of_one_folder(self) -> None:
+        """Another one takes its place meanwhile."""
+        held, opens = log.HeldLog({}), os.open
+
+        def open_then_exchange(path: str, flags: int, *, dir_fd: int | None = None) -> int:
+            file = opens(path, flags, dir_fd=dir_fd)
+            if path.endswith(log.FILES[0]):
+                os.rename(self.log, f'{self.log}.before')
+                self.made('another')
+            return file
+        with mock.patch('os.open', open_then_exchange):
+            held.hold(self.log)
+        self.assertEqual([os.pread(file, 100, 0).decode() for file in held.files.values()],
+                         [f'of {name}' for name in log.FILES])
         held.close()
 
     def test_all_or_none(self) -> None:
