@@ -148,14 +148,14 @@ def removed() -> str:
     program, card = pair.west.programs(), inside.remove(1)
     alarm = until(lambda: pair.west.transport().get('red') == 1, 'the west has RED')
     until(lambda: not pair.east.status().get('trunk_up', True), 'the east has no trunk')
-    asks(pair.west.said('card: RED alarm: '), 'the west says nothing of RED')
+    asks(pair.west.has_printed('card: RED alarm: '), 'the west says nothing of RED')
     inside.has_all(pair.east.service.printed(), 'the card is gone')
     refusal = pair.west.service.ask('seize 1')
     time.sleep(3)
     inside.give_back(1, card)
     back = until(lambda: pair.east.transport().get('red') == 0, 'the east has its card again', BACK)
     pair.are_heard(BACK)
-    until(lambda: pair.west.said('card: RED alarm over'), 'the west says that RED is over', BACK)
+    until(lambda: pair.west.has_printed('card: RED alarm over'), 'the west says that RED is over', BACK)
     asks(pair.are_answered(), f'{pair.west.states()}, {pair.east.states()}')
     asks(pair.west.programs() == program, 'the alarm has ended the program of the west')
     return f'RED within {alarm:.1f} s (seize: {refusal}), open {back:.1f} s behind the card, thirty calls stay'
@@ -180,20 +180,20 @@ def alarms() -> str:
     pair.calls()
     west, program = pair.west, pair.west.programs()
     shares = [share(program[0], 2)]
-    with inside.told():
+    with inside.alarms_module():
         for alarm, is_maintenance in TOLD:
-            inside.tell(0, alarm, is_maintenance)
+            inside.set_alarms(0, alarm, is_maintenance)
             has_alarm(west, alarm)
             shares.append(share(program[0], 2))
-            inside.tell(0, 0)
-            until(lambda: west.said(f'card: {alarm.names()[0]} alarm over'), f'{alarm.name} is over')
+            inside.set_alarms(0, 0)
+            until(lambda: west.has_printed(f'card: {alarm.names()[0]} alarm over'), f'{alarm.name} is over')
         inside.cut(1)
         has_alarm(pair.east, Alarm.RED)
         has_alarm(west, Alarm.YELLOW)
         shares.append(share(program[0], 2))
         inside.cut(None)
-        until(lambda: west.said('card: YELLOW alarm over'), 'YELLOW is over')
-        until(lambda: pair.east.said('card: RED alarm over'), 'RED is over', BACK)
+        until(lambda: west.has_printed('card: YELLOW alarm over'), 'YELLOW is over')
+        until(lambda: pair.east.has_printed('card: RED alarm over'), 'RED is over', BACK)
         pair.are_heard(BACK)
     asks(pair.are_answered(), f'{pair.west.states()}, {pair.east.states()}')
     asks(west.programs() == program, 'an alarm has ended the program of the west')
@@ -207,7 +207,7 @@ def has_alarm(site: Site, alarm: Alarm) -> None:
     name, = alarm.names()
     key = str(alarm.name).lower()
     until(lambda: site.transport().get(key) == 1, f'the {site.name} has {name}', found=site.transport)
-    asks(site.said(CardAlarmChanged(CardAlarm(name), True).words()), f'the {site.name} says nothing of {name}')
+    asks(site.has_printed(CardAlarmChanged(CardAlarm(name), True).words()), f'the {site.name} says nothing of {name}')
 
 
 def slips() -> str:
@@ -216,15 +216,15 @@ def slips() -> str:
     pair.calls()
     west, east = pair.sites
     before = east.losses()
-    with inside.told():
+    with inside.alarms_module():
         inside.slip(1)
         until(lambda: east.losses() > before, 'the east has lost slot 16', found=east.losses)
         pair.are_heard(BACK)
-        inside.tell(0, 0, count=FIRST)
+        inside.set_alarms(0, 0, count=FIRST)
         numbers = range(FIRST, FIRST + len(COUNTS))
         until(lambda: [west.transport().get(name) for name in COUNTS] == [*numbers], 'the counts', found=west.transport)
         inside.has_all(east.service.printed() + ask(west.service.control, b'status'), '(card: span|slot)')
-        inside.tell(0, 0)
+        inside.set_alarms(0, 0)
     asks(pair.are_answered(), f'{west.states()}, {east.states()}')
     return f'slot 16 is found again, thirty calls stay; {len(COUNTS)} counts, each under its name'
 

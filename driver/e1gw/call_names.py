@@ -74,10 +74,10 @@ class CallNames:
             self._base = {n: before[n] + max(new[n], count) - count for n, count in told.items()}
         for n, count in told.items():
             lines[n].seizures = self._base.get(n, 0) + count
-        self.look(lines)
+        self.note_states(lines)
         self._note()
 
-    def look(self, lines: Mapping[int, Line]) -> None:
+    def note_states(self, lines: Mapping[int, Line]) -> None:
         """To be called when another state of a line was told: notes how they stand."""
         last = {n: line.counts() for n, line in lines.items()}
         in_call = [n for n, line in lines.items() if line.state in IN_CALL]

@@ -152,7 +152,7 @@ class CallLog:
         self.lines.append(csv_line(self._line(call, now)))
         self._before[call.circuit] = now
 
-    def give(self) -> None:
+    def put_lines(self) -> None:
         """Puts the lines, which are noted: another service would put them."""
         while self.lines:
             self._put(self.lines.pop(0))
@@ -164,20 +164,20 @@ class CallLog:
                                    self._counts.circuits[n].note()) for n, line in self._lines.items()}
         return CallsNote(place, begun, at, circuits, (*self._calls.values(),), self._before, (*waiting, *self.lines))
 
-    def take_up(self, note: CallsNote) -> None:
+    def restore_note(self, note: CallsNote) -> None:
         """Goes on with the calls that another service has noted."""
         self._calls, self._before = {call.circuit: call for call in note.calls}, note.before
         for n, its in note.circuits.items():
             line = self._lines[n]
             line.state, line.since, line.opened = State(its.state), its.since, its.opened
             line.count_on(its.line)
-            self._counts.circuits[n].take_up(its.packets)
+            self._counts.circuits[n].restore_note(its.packets)
 
     def finish(self) -> None:
         """The trunk is no longer carried: writes all."""
         for call in list(self._calls.values()):
             self._end(call, 'stop')
-        self.give()
+        self.put_lines()
 
     def _now(self, circuit: int) -> dict[str, int]:
         counts = self._counts.circuits[circuit]

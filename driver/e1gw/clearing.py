@@ -86,7 +86,7 @@ class DisconnectWatch:
         if wish.seconds is not None and all(each.is_silent for each in self._asked.values()):
             self._due, self._blocks = since + wish.seconds, wish.blocks
 
-    def look(self, now: float) -> None:
+    def clear_due(self, now: float) -> None:
         """To be called a few times a second. (What came while this process stood still is not read yet.)"""
         stood, self._looked = now - self._looked, now
         for its in self._asked.values():
@@ -108,7 +108,7 @@ class OutageWatch:
         self._since: float | None = None
         self._has_cleared = False
 
-    def look(self, now: float, outage: str | None) -> None:
+    def clear_due(self, now: float, outage: str | None) -> None:
         """To be called now and then, with why the trunk is out of service, or None."""
         if outage is None:
             self._since, self._has_cleared = None, False

@@ -63,7 +63,7 @@ class TrunkRate:
         """It is measured anew."""
         self._lows.clear()
 
-    def look(self, now: float, behind: float) -> bool:
+    def update_rate(self, now: float, behind: float) -> bool:
         """Octets are late by so much. Whether the rate is wrong since this look, or right again."""
         lows = self._lows
         if lows and now - lows[-1][0] < EACH:
@@ -119,7 +119,7 @@ class Clock:
         self._rates.clear()
         self.rate.clear()
 
-    def look(self, now: float) -> list[ClockFinding]:
+    def find_changes(self, now: float) -> list[ClockFinding]:
         """To be called each TICK: what has become of the flow since."""
         if now - self._looked >= self.gap:
             self._last = now    # this process stood still
@@ -130,7 +130,8 @@ class Clock:
         """The rate over the last seconds, however octets flow."""
         if now - self._last > PAUSE:
             self.rate.clear()
-        elif self.rate.look(now, now - self._began - self.octets / OCTETS_A_SECOND if self._low is None else self._low):
+        elif self.rate.update_rate(now, self._low if self._low is not None else
+                                   now - self._began - self.octets / OCTETS_A_SECOND):
             return [ClockFinding('wrong rate' if self.rate.is_wrong else 'right rate', self.rate.ratio or 0.0)]
         return []
 

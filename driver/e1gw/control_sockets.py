@@ -82,7 +82,7 @@ def answer_to(line: socket.socket, stream: BinaryIO, command: str, patience: flo
 
 
 def status_text(path: str, patience: float) -> bytes:
-    """The JSON of the status that a trunk answers. OSError where it answers none."""
+    """The status of a trunk, as JSON. OSError if the trunk does not answer."""
     with connected(path, patience) as line:
         stream: BinaryIO = line.makefile('rb')
         line.sendall(b'status json\n')
@@ -90,13 +90,13 @@ def status_text(path: str, patience: float) -> bytes:
 
 
 def read_status(kind: type[T], path: str, patience: float) -> T:
-    """The status that a trunk answers, perhaps an older one, or a part of it: what a value of this type has. OSError or
-    ValueError where it answers none."""
+    """What a value of this type has of the status of a trunk, which may be of an older version. OSError if the trunk
+    does not answer, ValueError if the answer is no status."""
     return status_in(kind, status_text(path, patience))
 
 
 def status_in(kind: type[T], text: str | bytes) -> T:
-    """The same of an answer. ValueError if it is no status."""
+    """The same, of the JSON of a status. ValueError if that is none."""
     try:
         return typed(kind, json.loads(text))
     except ValueError:

@@ -78,7 +78,7 @@ class CircuitCounts:
     def note(self) -> PacketsNote:
         return PacketsNote(self.before, self.told, self.numbers.count_lost, self.cause)
 
-    def take_up(self, note: PacketsNote) -> None:
+    def restore_note(self, note: PacketsNote) -> None:
         self.before, self.told, self.numbers.before, self.cause = note.before, note.told, note.lost, note.cause
 
     def begin_call(self) -> None:

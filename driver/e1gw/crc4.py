@@ -110,7 +110,7 @@ class Crc4:
         """All of it but for errors that were reported."""
         return Crc4Note(self.counts, self.aligned, self._last)
 
-    def take_up(self, note: Crc4Note) -> None:
+    def restore_note(self, note: Crc4Note) -> None:
         """Goes on where another one has left."""
         self.counts, self.aligned, self._last = note.counts.copy(), note.aligned, note.last.copy()
 

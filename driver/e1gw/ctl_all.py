@@ -18,7 +18,7 @@ HEAD = f'{"trunk":12} {"e1gw":8} {"up since (UTC)":17} {"calls":>5} {"lost":>8} 
 
 
 def status_of(path: str, patience: float) -> TrunkStatus:
-    """The status that a trunk answers. OSError or ValueError where it answers none."""
+    """The status of a trunk. OSError if the trunk does not answer, ValueError if the answer is no status."""
     return read_status(TrunkStatus, path, patience)
 
 

@@ -88,7 +88,7 @@ def calls_listed(trunks: Iterable[tuple[str, str]], wanted: Wanted, is_csv: bool
     """Prints the calls of trunks, the last one last, and their sums; returns the status."""
     found = list[CallLine]()
 
-    def lists(_: str, of: TrunkStatus) -> None:
+    def print_outages(_: str, of: TrunkStatus) -> None:
         file = of.files.calls_file
         ended = wanted.select_ended(read_calls(file)) if file else []
         its = [*reversed(ended), *wanted.select_open(of.calls)]
@@ -99,7 +99,7 @@ def calls_listed(trunks: Iterable[tuple[str, str]], wanted: Wanted, is_csv: bool
             raise ValueError('it writes no --calls: there are no calls that have ended')
     zone = f'seized ({time.strftime("%Z")})'
     print(csv_line(FIELDS_OF_CALLS) if is_csv else HEAD.format(zone=zone))
-    status = each_status(trunks, patience, lists)
+    status = each_status(trunks, patience, print_outages)
     if not is_csv:
         first, end = -inf if wanted.first is None else wanted.first, inf if wanted.end is None else wanted.end
         print('', *sums_words(sums_of(found, time.time(), first, end)), sep='\n')
@@ -118,18 +118,18 @@ def outages_listed(trunks: Iterable[tuple[str, str]], since: float | None, until
     """Prints the outages of trunks between two times; returns the status."""
     rows = list[tuple[str, ...]]()
 
-    def puts(its: tuple[str, ...]) -> None:
+    def print_row(its: tuple[str, ...]) -> None:
         if form is OutageForm.PAGE:
             return rows.append(its)
         print(csv_line(its) if form is OutageForm.CSV else OUTAGE.format(*its).rstrip(), flush=True)
 
-    def lists(name: str, of: TrunkStatus) -> None:
+    def print_outages(name: str, of: TrunkStatus) -> None:
         if not of.files.events_file:
             raise ValueError('it writes no --json FILE: its outages are not known')
         for each in outages_in(lines_of(of.files.events_file), since or 0.0, inf if until is None else until):
-            puts(each.fields(of.name or name))
-    puts(FIELDS)
-    status = each_status(trunks, patience, lists)
+            print_row(each.fields(of.name or name))
+    print_row(FIELDS)
+    status = each_status(trunks, patience, print_outages)
     if rows:
         print(outages_page(rows))
     return status

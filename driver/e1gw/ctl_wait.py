@@ -25,7 +25,7 @@ class AwaitedState:
     circuits: Collection[int]
     state: str
 
-    def found(self, status: TrunkStatus) -> tuple[bool, str]:
+    def compare_status(self, status: TrunkStatus) -> tuple[bool, str]:
         """Whether they are, and in which states those are that are not."""
         if status.fault:
             return False, status.fault
@@ -39,10 +39,10 @@ class AwaitedState:
             return False, ', '.join(words) or 'it has no such circuit'
         return True, f'{circuit_words(row.line.circuit for row in rows)} {self.state}'
 
-    def look(self, name: str, path: str, patience: float) -> tuple[bool, str]:
+    def ask_trunk(self, name: str, path: str, patience: float) -> tuple[bool, str]:
         """The same of a trunk that is asked. (A name may be that of a socket here that is still to come.)"""
         try:
-            return self.found(status_of(path, patience))
+            return self.compare_status(status_of(path, patience))
         except FileNotFoundError:
             return False, 'no trunk yet' + f', here or at {path}' * (path != name)
         except ConnectionRefusedError:
@@ -57,7 +57,7 @@ def wait(trunks: Callable[[], Trunks], awaited: AwaitedState, seconds: float | N
     until, told = seconds is not None and time.monotonic() + seconds, dict[str, str]()
     try:
         while True:
-            found = {name: awaited.look(name, path, patience) for name, path in trunks()}
+            found = {name: awaited.ask_trunk(name, path, patience) for name, path in trunks()}
             for name, (_, words) in found.items():
                 if words != told.get(name):
                     print(f'{time.strftime("%H:%M:%S", time.gmtime())} {name}: {words}', flush=True)

@@ -56,7 +56,7 @@ class DeafCalls:
         self.causes, self._tell = dict[int, str](), tell
         self._hearings = dict[int, Hearing]()
 
-    def take_up(self, causes: Mapping[int, str]) -> None:
+    def restore_causes(self, causes: Mapping[int, str]) -> None:
         """Goes on with what was told of these circuits."""
         self.causes.update(causes)
 
@@ -66,7 +66,7 @@ class DeafCalls:
         if self.causes.pop(circuit, ''):
             self._tell(CallsDeaf(False, (circuit,)))
 
-    def look(self, place: int, answered: Mapping[int, ToldCounts]) -> None:
+    def update_hearings(self, place: int, answered: Mapping[int, ToldCounts]) -> None:
         """To be called a few times a second, with the octet of the trunk and the counts of answered circuits."""
         self._hearings = {n: (self._hearings.get(n) or self._start(n, counts, place)).updated(counts, place)
                           for n, counts in answered.items()}

@@ -113,7 +113,7 @@ class TrunkPlaces(NamedTuple):
         return self._path('holder')
 
     @property
-    def hold(self) -> str:
+    def hold_path(self) -> str:
         """Its socket, for a line each."""
         return self._path('hold')
 
@@ -132,11 +132,11 @@ class TrunkPlaces(NamedTuple):
         return self._path('program')
 
     @property
-    def tell(self) -> str:
+    def tell_path(self) -> str:
         return self._path('tell')
 
     @property
-    def said(self) -> str:
+    def said_path(self) -> str:
         """What the program says on standard error."""
         return self._path('said')
 

@@ -10,7 +10,7 @@ class InUse(Exception):
     """Another process has it. The words are its number."""
 
 
-def hold(path: str) -> int:
+def take_lock(path: str) -> int:
     """The descriptor of the file, which is locked as long as that is open. InUse says who has it."""
     while True:
         file = os.open(path, os.O_RDWR | os.O_CREAT | os.O_CLOEXEC, 0o600)
@@ -37,7 +37,7 @@ def is_at(file: int, path: str) -> bool:
         return False
 
 
-def let_go(file: int, path: str) -> None:
+def release_lock(file: int, path: str) -> None:
     """Removes it: the next holder makes another one."""
     if is_at(file, path):
         os.unlink(path)

@@ -201,7 +201,7 @@ class FolderReader:
         self.files, self.place, self.base = files, place, 0
         self._turn, self.number = -1, 0     # of the pair that was read last
 
-    def look(self) -> list[LogNews]:
+    def read_news(self) -> list[LogNews]:
         """What there is of news. Nothing while it is written over faster than it is read."""
         number, head = self._newest()
         if not head or head.turn < self._turn:      # (a head is written in this moment)

@@ -10,7 +10,7 @@ from collections import deque
 from concurrent.futures import ThreadPoolExecutor
 from contextlib import suppress
 from dataclasses import replace
-from typing import Any, Iterable, Sequence
+from typing import Iterable
 
 from e1gw_common.plain import plain_of
 from e1gw_common.session import OCTETS_A_SECOND
@@ -49,10 +49,10 @@ class Ring:
     a file is, its place on the trunk says: the clock of the day may be set at any time, and tells no more than a
     name."""
 
-    def __init__(self, folder: str, name: str, keep: int, own: Iterable[Sequence[Any]] = ()) -> None:
+    def __init__(self, folder: str, name: str, keep: int, own: Iterable[tuple[str, int]] = ()) -> None:
         """`own` are files that this session has already, without their endings, and their places on the trunk."""
         self._folder, self._name, self._keep = folder, name, keep * OCTETS_A_SECOND
-        self.own = tuple((str(front), int(place)) for front, place in own)
+        self.own = *own,
         self._about, self._front = FileAbout(), ''          # of the file that is written
         self.zstd = shutil.which('zstd')
         self._packs = ThreadPoolExecutor(1)

@@ -127,7 +127,7 @@ class Resyncs:
     def _call(self, circuit: int) -> OpenCall:
         return self._calls.setdefault(circuit, OpenCall())
 
-    def look(self, now: float, place: int, opened: list[int], counts: bool) -> None:
+    def restart_due(self, now: float, place: int, opened: list[int], counts: bool) -> None:
         """To be called each tick, with the trunk's place, the open circuits, and whether the counts are of now."""
         due: dict[str, list[int]] = {}
         for n in self._calls.keys() - opened:

@@ -2,10 +2,12 @@
 satop` has begun, and what it has said since. The holder goes on with them, and the other machine of a pair."""
 from __future__ import annotations
 
+import json
 import os
 import time
-from typing import Any, Mapping, NamedTuple
+from typing import NamedTuple
 
+from e1gw_common.writers import put_file
 from .holder_state import plain_in
 
 OCTETS_A_SECOND = 256_000
@@ -31,9 +33,23 @@ def lines_in(path: str) -> list[str]:
         return []
 
 
-def begun_in(path: str) -> Mapping[str, Any]:
-    """How it began; nothing if that is not known."""
-    return plain_in(f'{path}{ENDS}')
+class SatopBegun(NamedTuple):
+    """How the process began: the ends and options as they were `asked` for, and as it has them, in `words`; and the
+    number of its first packet. Empty if that is not known."""
+
+    asked: tuple[str, ...] = ()
+    words: tuple[str, ...] = ()
+    first: int | None = None
+
+    def put(self, path: str) -> None:
+        put_file(f'{path}{ENDS}', json.dumps(self._asdict()).encode(), 0o640)
+
+
+def begun_in(path: str) -> SatopBegun:
+    """How the process began that says something at a path."""
+    plain = plain_in(f'{path}{ENDS}')
+    texts = {name: tuple(its) for name in ('asked', 'words') if isinstance(its := plain.get(name), list)}
+    return SatopBegun(**texts, first=first if isinstance(first := plain.get('first'), int) else None)
 
 
 class PacketNumber(NamedTuple):
@@ -50,8 +66,8 @@ class PacketNumber(NamedTuple):
 def number_of_now(path: str) -> PacketNumber | None:
     """That of now; None if no process has begun there."""
     begun = begun_in(path)
-    words, first = begun.get('words'), begun.get('first')
-    if not isinstance(first, int) or not isinstance(words, list) or '--size' not in words[:-1]:
+    words, first = begun.words, begun.first
+    if first is None or '--size' not in words[:-1]:
         return None
     size = int(words[words.index('--size') + 1])
     try:

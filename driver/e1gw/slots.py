@@ -63,6 +63,6 @@ class Slots:
         """The same, and what the next one is compared with."""
         return SlotsNote(self.silent, self.lost, self.moved, self._delay)
 
-    def take_up(self, note: SlotsNote) -> None:
+    def restore_note(self, note: SlotsNote) -> None:
         """What the watcher before this one has noted."""
         self.silent, self.lost, self.moved, self._delay = note.silent, note.lost, note.moved, note.delay

@@ -3,7 +3,6 @@ log of now, begins a log with a saved state, or saves the state behind a log."""
 from __future__ import annotations
 
 import ipaddress
-import json
 import os
 import re
 import socket
@@ -19,10 +18,11 @@ from typing import Any, Callable, Collection, Iterable, Mapping, Sequence, TypeV
 
 from e1gw_common.config_faults import config_words
 from e1gw_common.fault_words import words_of_fault
-from e1gw_common.lines import IN_CALL, SEIZURE_WAIT, TrunkConfig, circuit_words, config_text, no_peers, wait_words
+from e1gw_common.lines import IN_CALL, TrunkConfig, circuit_words, config_text, no_peers, wait_words
 from e1gw_common.plain import typed
 from e1gw_common.session import CIRCUITS
 from e1gw_common.writers import put_file
+from .holder.job_types import JobAnswer, JobRequest, request_in
 from .holder.log import remove
 from .holder.version import NOT_PROVED, Tried
 from .log_folder import LogFiles, LogPair, LogWriter
@@ -36,25 +36,6 @@ NEW = re.compile(r'circuit (\d+) begins as new')
 T = TypeVar('T')
 
 
-@dataclass(frozen=True, kw_only=True)
-class Asked:
-    """What a holder asks: a program, and the one before it, as descriptors; what was tried before; the paths of a
-    configuration (or its text, to save a state), a log and a state; options; and how long each step may take."""
-
-    what: str
-    seconds: float
-    program: int = -1
-    program_before: int = -1
-    before: Tried | None = None
-    config: str = ''
-    log: str = ''
-    state: str = ''
-    senders: str = ''
-    wait: int = SEIZURE_WAIT
-    force: bool = False
-    when_idle: bool = False
-
-
 class TrialRefused(Exception):
     """Why a version will not do."""
 
@@ -65,7 +46,8 @@ class TrialLater(Exception):
 
 # ---- a program ----
 
-def run(asked: Asked, program: int, words: Sequence[str], config: str, begun: LogPair | None) -> tuple[int, str, str]:
+def run(asked: JobRequest, program: int, words: Sequence[str], config: str,
+        begun: LogPair | None) -> tuple[int, str, str]:
     """Runs a program to its end, over the records behind a state if there is one: its status, what it says, and what it
     writes."""
     wait, seconds = asked.wait, asked.seconds
@@ -93,7 +75,7 @@ class Checked:
     codecs: Mapping[int, tuple[str, int]]
 
 
-def check(asked: Asked, program: int, config: str, begun: LogPair | None) -> Checked:
+def check(asked: JobRequest, program: int, config: str, begun: LogPair | None) -> Checked:
     """Has a program check a configuration, and whether it goes on from a log: how the circuits stand then."""
     status, said, listed = run(asked, program, ['check'], config, begun)
     lines = said.splitlines()
@@ -105,7 +87,7 @@ def check(asked: Asked, program: int, config: str, begun: LogPair | None) -> Che
                    {int(row[0]): (row[-2], int(row[-1])) for row in rows if row[2:]})
 
 
-def version_name(asked: Asked) -> str:
+def version_name(asked: JobRequest) -> str:
     """The version that a program says; nothing if it says none. What was built without proof has it in its name."""
     program, path = asked.program, os.readlink(f'/proc/self/fd/{asked.program}')
     try:
@@ -215,7 +197,7 @@ class ReloadEffects:
         return len(self.affected_calls) > MOST_ENDED and not force
 
 
-def try_version(asked: Asked) -> dict[str, object]:
+def try_version(asked: JobRequest) -> JobAnswer:
     """Tries a version, behind one before it if there is one."""
     program, config = asked.program, asked.config
     text, name = read(config), version_name(asked)
@@ -230,7 +212,7 @@ def try_version(asked: Asked) -> dict[str, object]:
     version, log = in_pieces(tables, asked.senders, name), last_of(asked.log)
     found = check(asked, program, version.config(), log)
     if not (before := asked.before):
-        return {'tried': version._asdict(), 'told': ''}
+        return JobAnswer(tried=version)
     now = circuits_now(asked, before, log)
     calls = now.calls | found.calls
     hurt = ReloadEffects(calls, found.new, frozenset(before.ports), frozenset(version.ports)).affected_calls
@@ -240,8 +222,8 @@ def try_version(asked: Asked) -> dict[str, object]:
         version = keep_circuits(version, before, wait)
         found = check(asked, program, version.config(), log)
     runs = is_same_file(asked) and version._replace(wait=before.wait) == before
-    return {'tried': version._asdict(), 'told': describe_effects(asked.force, before, version, found.new, calls),
-            'changes': describe_changes(before, version), 'runs': runs}
+    return JobAnswer(tried=version, told=describe_effects(asked.force, before, version, found.new, calls),
+                     changes=describe_changes(before, version), runs=runs)
 
 
 def keep_circuits(version: Tried, before: Tried, circuits: Collection[int]) -> Tried:
@@ -252,7 +234,7 @@ def keep_circuits(version: Tried, before: Tried, circuits: Collection[int]) -> T
                             wait=tuple(sorted(circuits)))
 
 
-def circuits_now(asked: Asked, before: Tried, log: LogPair | None) -> Checked:
+def circuits_now(asked: JobRequest, before: Tried, log: LogPair | None) -> Checked:
     """How the circuits stand with the configuration before, by either program. If neither says it, all may be in a
     call."""
     for program in asked.program, asked.program_before:
@@ -272,7 +254,7 @@ def has_codec(before: Tried, version: Tried, circuit: int, codecs: Mapping[int, 
     return own == its and codecs.get(circuit) == new.lines()[circuit].configured
 
 
-def is_same_file(asked: Asked) -> bool:
+def is_same_file(asked: JobRequest) -> bool:
     """Whether the program is the file that runs."""
     now, before = map(os.fstat, (asked.program, asked.program_before))
     return os.path.samestat(now, before) and (now.st_size, now.st_mtime_ns) == (before.st_size, before.st_mtime_ns)
@@ -312,7 +294,7 @@ def last_of(folder: str) -> LogPair | None:
         return None
 
 
-def load_state(asked: Asked) -> dict[str, object]:
+def load_state(asked: JobRequest) -> JobAnswer:
     """Begins a log with the state that was saved in a file: all of it, or nothing."""
     with open(asked.state, 'rb') as file:
         octets = file.read()
@@ -321,10 +303,10 @@ def load_state(asked: Asked) -> dict[str, object]:
         writer.begin(0, octets)
     remove(asked.log)
     os.rename(new, asked.log)
-    return {}
+    return JobAnswer()
 
 
-def save_state(asked: Asked) -> dict[str, object]:
+def save_state(asked: JobRequest) -> JobAnswer:
     """Puts the state behind a whole log into a file, whole and up to the disk."""
     if log := last_of(asked.log):
         new = f'{asked.state}.new'
@@ -335,33 +317,32 @@ def save_state(asked: Asked) -> dict[str, object]:
             octets = file.read()
         os.unlink(new)
         put_file(asked.state, octets, 0o640, is_synced=True)
-    return {}
+    return JobAnswer()
 
 
-def try_start(asked: Asked) -> dict[str, object]:
+def try_start(asked: JobRequest) -> JobAnswer:
     """The holder of now could begin."""
     import_module('.holder.main', __package__)
-    return {}
+    return JobAnswer()
 
 
-DOES: Mapping[str, Callable[[Asked], dict[str, object]]] = {
+DOES: Mapping[str, Callable[[JobRequest], JobAnswer]] = {
     'try': try_version, 'load': load_state, 'save': save_state, 'begin': try_start}
 
 
-def answer(plain: object) -> dict[str, object]:
+def answer(asked: JobRequest) -> JobAnswer:
     """What is answered: what was found; why it is refused; or why it cannot be done now."""
-    asked = typed(Asked, plain)
     try:
         return DOES[asked.what](asked)
     except TrialRefused as fault:
-        return {'refused': str(fault)}
+        return JobAnswer(refused=str(fault))
     except (ValueError, RecursionError) as fault:
-        return {'refused': f'the configuration is not understood: {fault}'}
+        return JobAnswer(refused=f'the configuration is not understood: {fault}')
     except Exception as fault:      # pylint: disable=broad-exception-caught
-        return {'later': words_of_fault(fault) or type(fault).__name__}
+        return JobAnswer(later=words_of_fault(fault) or type(fault).__name__)
 
 
 def main() -> None:
     """Answers what standard input asks."""
-    os.write(1, json.dumps(answer(json.load(sys.stdin))).encode())
+    os.write(1, answer(request_in(sys.stdin.buffer.read())).spell())
     os._exit(0)                 # (threads may look names up still)

@@ -2,11 +2,13 @@
 from __future__ import annotations
 
 import argparse
-from typing import Any, Callable, NoReturn
+from typing import Callable, NoReturn, TypeVar
 
 from .fault_words import named, options_words, words_of_fault
 from .lines import Role
 from .session import CommandRefusal, Refusal
+
+T = TypeVar('T')
 
 __all__ = ['Parser', 'checked', 'named', 'number', 'options_words', 'words_of_fault', 'words_of_refusal']
 
@@ -20,9 +22,9 @@ def words_of_refusal(refusal: Refusal, circuit: int, role: Role) -> str:
     return f'{refusal.words} (circuit {circuit} is {role}; {whose})'
 
 
-def number(least: float, most: float, kind: type = int) -> Callable[[str], Any]:
+def number(least: float, most: float, kind: Callable[[str], float] = int) -> Callable[[str], float]:
     """A reader of a number for an option; a number outside is refused with its range."""
-    def numeric(text: str) -> Any:      # (by its name argparse says what it refuses)
+    def numeric(text: str) -> float:      # (by its name argparse says what it refuses)
         value = kind(text)
         if not least <= value <= most:
             raise argparse.ArgumentTypeError(f'{text} is not {least} to {most}')
@@ -30,9 +32,9 @@ def number(least: float, most: float, kind: type = int) -> Callable[[str], Any]:
     return numeric
 
 
-def checked(read: Callable[[str], Any], what: str = '') -> Callable[[str], Any]:
+def checked(read: Callable[[str], T], what: str = '') -> Callable[[str], T]:
     """A reader for an option, whose ValueError is what is said of it, or that it is not `what`."""
-    def reads(text: str) -> Any:
+    def reads(text: str) -> T:
         try:
             return read(text)
         except ValueError as fault:

@@ -8,8 +8,9 @@ import threading
 from collections import deque
 from contextlib import suppress
 from dataclasses import dataclass
+from io import TextIOWrapper
 from itertools import takewhile
-from typing import Any, Callable, TextIO
+from typing import Callable, TextIO
 
 from .writers import append_line, open_to_append, write_all
 
@@ -55,7 +56,7 @@ class LineFile(logging.handlers.RotatingFileHandler):
             first = file.readline().rstrip('\n')
         return first != self._head and first.partition(',')[0] == self._head.partition(',')[0]
 
-    def _open(self) -> Any:
+    def _open(self) -> TextIOWrapper:
         stream = open(open_to_append(self.baseFilename, not self._is_again), 'a', encoding='utf-8')
         if self._head and os.fstat(stream.fileno()).st_size == 0:
             append_line(stream.fileno(), self._head)
@@ -122,10 +123,10 @@ class EventFile:
             puts = self._opened = self._opened or self._open()
             for line in lines:
                 puts.append(line)
-            self._tell(None)
+            self._report_state(None)
             return True
         except OSError as fault:
-            self._tell(fault.strerror or str(fault))
+            self._report_state(fault.strerror or str(fault))
             if self._opened:
                 self._opened.close()
             self._opened = None
@@ -135,7 +136,7 @@ class EventFile:
         is_again = self._why is not None
         return LineFile(self._file, self._head, is_again) if isinstance(self._file, str) else LineStream(self._file)
 
-    def _tell(self, why: str | None) -> None:
+    def _report_state(self, why: str | None) -> None:
         """Tells why it fails, once, or that it goes on."""
         before, self._why = self._why, why
         if bool(why) is not bool(before):
@@ -148,7 +149,7 @@ class EventFile:
                 self.waiting.append(line)
                 self._changed.notify()
         if not has_room:
-            self._tell('it takes too little')
+            self._report_state('it takes too little')
 
     def close(self) -> None:
         """Waits until all is written, FLUSH at most; what has failed is tried once more."""

@@ -14,7 +14,7 @@ class Notifier:
         self._line = socket.socket(socket.AF_UNIX, socket.SOCK_DGRAM)
         self._line.setblocking(False)
 
-    def tell(self, *lines: str) -> None:
+    def notify(self, *lines: str) -> None:
         if self._path:
             with suppress(OSError):
                 self._line.sendto('\n'.join(lines).encode(), self._path)

@@ -86,20 +86,20 @@ def open_session(path: str, last: int | None = None) -> RecordedSession:
     """A session in one file, or what was kept in a folder. Of a folder the last octets of the trunk,
     this number, are enough, if it was kept what the gateway was before them."""
     if not os.path.isdir(path):
-        return _told(RecordedSession([path]))
+        return _read_facts(RecordedSession([path]))
     files = _sessions_in(path)[-1]
-    return _told(RecordedSession(files[_enough(files, last):] if last else files))
+    return _read_facts(RecordedSession(files[_enough(files, last):] if last else files))
 
 
 def kept_between(folder: str, first: float, last: float) -> RecordedSession | None:
     """What was kept in a folder of a time: files of one session, of which the first one is the last that has begun by
     then, and of which it is known what the gateway was. None if all that is kept is behind it."""
     for files in reversed(_sessions_in(folder)):
-        session = _told(RecordedSession(files))
+        session = _read_facts(RecordedSession(files))
         begins = [session.clock.second((read_about(file).place or 0) - session.place) for file in files]
         if session.begin is not None and begins[0] < last:
             early = [n for n, begin in enumerate(begins) if begin <= first and state_of(files[n])]
-            return _told(RecordedSession(files[max(early, default=0):sum(begin < last for begin in begins)]))
+            return _read_facts(RecordedSession(files[max(early, default=0):sum(begin < last for begin in begins)]))
     return None
 
 
@@ -172,7 +172,7 @@ def read_about(path: str) -> FileAbout:
     return FileAbout()
 
 
-def _told(session: RecordedSession) -> RecordedSession:
+def _read_facts(session: RecordedSession) -> RecordedSession:
     about = read_about(session.files[0])
     session.config, session.wait, session.begin = about.config, about.seizure_wait, about.time
     session.middle, session.place = about.begins is FileStart.MIDDLE, about.place or 0

@@ -4,7 +4,7 @@ import os
 import signal
 import sys
 from types import ModuleType
-from typing import Any, NoReturn
+from typing import NoReturn, Sequence
 
 # The module that has main(), by the command's name without e1gw-.
 COMMANDS = {
@@ -33,9 +33,9 @@ def complete() -> None:
         sys.exit('e1gw: completion needs the package python3-argcomplete')
     parse = argparse.ArgumentParser.parse_args
 
-    def answer(parser: argparse.ArgumentParser, *words: Any) -> Any:
+    def answer(parser: argparse.ArgumentParser, words: Sequence[str] | None = None) -> argparse.Namespace:
         argcomplete.autocomplete(parser, always_complete_options=False)     # which ends the process
-        return parse(parser, *words)
+        return parse(parser, words)
     setattr(argparse.ArgumentParser, 'parse_args', answer)
 
 

@@ -7,10 +7,12 @@ import logging
 import os
 import traceback
 from contextlib import contextmanager
-from typing import Any, Awaitable, Callable, Coroutine, Iterator, ParamSpec
+from typing import Awaitable, Callable, Coroutine, Iterator, ParamSpec, TypeVar
 
 AGAIN = 0.1                 # seconds before what has failed is begun again
 P = ParamSpec('P')
+T = TypeVar('T')
+Work = Coroutine[object, None, T]      # what an async function returns
 
 logger = logging.getLogger(__name__)
 
@@ -47,13 +49,13 @@ def run_periodically(seconds: float, work: Callable[[], object], what: str) -> I
         timer.cancel()
 
 
-class Tasks(set[asyncio.Task[Any]]):
+class Tasks(set[Awaitable[object]]):
     """Tasks that are held until they are done."""
 
-    def begin(self, work: Coroutine[Any, Any, Any]) -> None:
+    def begin(self, work: Work[object]) -> None:
         self.create(work)
 
-    def create(self, work: Coroutine[Any, Any, Any]) -> asyncio.Task[Any]:
+    def create(self, work: Work[T]) -> asyncio.Task[T]:
         """The same, and returns the task."""
         self.add(task := asyncio.create_task(work))
         task.add_done_callback(self.discard)

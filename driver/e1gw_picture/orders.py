@@ -42,9 +42,9 @@ class Orders:
         stretches = self.waiting.setdefault(codec, [])
         stretches.append((circuit, place, payloads))
         if len(stretches) >= WAITING:
-            self.look()
+            self.decode_queued()
 
-    def look(self) -> None:
+    def decode_queued(self) -> None:
         """Decodes everything queued."""
         for codec, stretches in self.waiting.items():
             bits = BITS[codec]

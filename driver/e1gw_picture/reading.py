@@ -87,15 +87,15 @@ class SessionReading:
         try:
             for records in self._batches(octets):
                 self.came += [record[HEAD:] for record in records if record[0] == DATAGRAM]
-                self.replay.give(b''.join(records))
+                self.replay.put_octets(b''.join(records))
                 if not self._take_records(before):
                     return
                 before = records
                 reached(self.place)
-            self.replay.give(b'')
+            self.replay.put_octets(b'')
             self._take_records(before)
         finally:
-            self.listener.orders.look()
+            self.listener.orders.decode_queued()
 
     def _batches(self, octets: Iterable[bytes]) -> Iterator[list[bytes]]:
         """All records, some at a time: in a long session more than in a short one."""

@@ -46,15 +46,15 @@ class Replay:
 
     def _begin(self, path: str) -> None:
         """Connects to the socket, which is open once a record is answered, and is let in behind the next record."""
-        self.give(NOTHING)
+        self.put_octets(NOTHING)
         if self.read_answers():
             self._socket.connect(path)
             self._socket.setblocking(False)
             self._tells.append(self._socket)
-            self.give(NOTHING)
+            self.put_octets(NOTHING)
             self.read_answers()
 
-    def give(self, octets: bytes) -> None:
+    def put_octets(self, octets: bytes) -> None:
         """Octets of the session; none: no more follow."""
         self._waits.put(octets)
 
@@ -99,7 +99,7 @@ class Replay:
 
     def end(self) -> str:
         """The program's message at the session's end, empty if it ended well."""
-        self.give(b'')
+        self.put_octets(b'')
         while self.read_answers():
             pass
         self.take_lines()

@@ -2,7 +2,6 @@
 import contextlib
 import socket
 from collections.abc import Iterator
-from typing import Any
 
 from e1gw_common.session import Codec, Packet
 
@@ -34,7 +33,7 @@ def speech(octet: int, length: int = PACKET, at: int = 0) -> bytes:
     return Packet(PCMA, 1 + at // PACKET, 1000 + at, 7, bytes([octet]) * length).encode()
 
 
-def packets(peer: socket.socket) -> Iterator[tuple[bytes, Any]]:
+def packets(peer: socket.socket) -> Iterator[tuple[bytes, tuple[str, int]]]:
     """The datagrams that wait at a peer, each with its sender."""
     peer.setblocking(False)
     with contextlib.suppress(BlockingIOError):

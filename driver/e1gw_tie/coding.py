@@ -88,7 +88,7 @@ class CodecChanges:
         if circuit and not circuit.is_changing:
             circuit.present = coding
 
-    def give(self, n: int, state: State) -> None:
+    def give_codec(self, n: int, state: State) -> None:
         """Gives a circuit in this state the codec that it needs; none before the other site is connected."""
         circuit = self._circuits.get(n)
         if circuit and self._trunk.is_up and self._heard:

@@ -75,9 +75,9 @@ def site_of(options: argparse.Namespace, tie: Tie) -> Site:
 async def sign_of_life() -> None:
     """Tells systemd that this process does not stand still."""
     notifier = Notifier()
-    notifier.tell('READY=1')
+    notifier.notify('READY=1')
     while True:
-        notifier.tell('WATCHDOG=1')
+        notifier.notify('WATCHDOG=1')
         await asyncio.sleep(SIGN)
 
 
@@ -86,7 +86,7 @@ async def work(tie: Tie, site: Site, path: str | None, http: tuple[str, int] | N
     try:
         await serve_status(tie, path, http)
     except (OSError, CannotListen) as fault:
-        tie.tell(Warned(f'nobody can ask for its status: {words_of_fault(fault)}'))
+        tie.put_report(Warned(f'nobody can ask for its status: {words_of_fault(fault)}'))
     loop, ends, status = asyncio.get_running_loop(), asyncio.Event(), 0
     for each in (signal.SIGINT, signal.SIGTERM, signal.SIGHUP):
         loop.add_signal_handler(each, ends.set)
@@ -99,7 +99,7 @@ async def work(tie: Tie, site: Site, path: str | None, http: tuple[str, int] | N
     for why in filter(None, (task.exception() for task in done)):
         print(f'e1gw-tie: {words_of_fault(why)}', file=sys.stderr)
         status = 1
-    tie.tell(Ended(status))
+    tie.put_report(Ended(status))
     site.close()
     return status
 
@@ -119,20 +119,20 @@ def main() -> None:
                       'and clear circuits: give --tls, or --insecure within a tunnel')
     lines = EventFile('standard output', sys.stdout, lambda *_: None)
 
-    def tell(report: Report) -> None:
+    def put_report(report: Report) -> None:
         lines.put(json_line(report))
     try:
         pairs = read_map(options.map) if options.map else None
         wanted = TieOptions(options.control, pairs, options.hold, options.congestion == 'wait', options.until_answer)
-        tie = Tie(wanted, secrets.token_hex(8), tell)
+        tie = Tie(wanted, secrets.token_hex(8), put_report)
         site = tie.site = site_of(options, tie)
     except (OSError, ValueError) as fault:
         return refuse(words_of_fault(fault))
     host, port = site.place
-    tell(Started(options.control, options.hold, f'{host}:{port}', 'TLS' if options.tls else
+    put_report(Started(options.control, options.hold, f'{host}:{port}', 'TLS' if options.tls else
                  'neither secret nor authenticated: for 127.0.0.1 or a tunnel'))
     if options.listen and options.tls and not options.peer:
-        tell(Warned(ANYBODY))
+        put_report(Warned(ANYBODY))
     # (not asyncio.run: that would wait for threads which wait for a disk)
     status = asyncio.new_event_loop().run_until_complete(work(tie, site, options.status, options.http))
     lines.close()

@@ -6,7 +6,7 @@ import ipaddress
 import os
 import ssl
 from collections import Counter
-from typing import TYPE_CHECKING, Any, Collection, Mapping, TypeVar
+from typing import TYPE_CHECKING, Collection, Mapping, TypeVar
 
 from e1gw_common.faults import words_of_fault
 from .events import NoConnection
@@ -66,10 +66,10 @@ class Site:
     def __init__(self, place: tuple[str, int], listens: bool, context: ssl.SSLContext | None, name: str | None,
                  tie: Tie) -> None:
         self.place, self.listens, self.context, self.name = place, listens, context, name
-        self._tie, self._tell = tie, tie.tell
+        self._tie, self._tell = tie, tie.put_report
         self._writer: asyncio.StreamWriter | None = None    # the present connection
         self._run = self._address = ''                      # the program at its other end; the address of the last one
-        self._strangers: dict[asyncio.Task[Any], str] = {}  # the address of each, the oldest first
+        self._strangers: dict[asyncio.Task[None], str] = {}  # the address of each, the oldest first
         self._reasons = Reasons()
 
     def send(self, message: Message) -> None:
@@ -133,7 +133,7 @@ class Site:
         try:
             async with asyncio.timeout(HANDSHAKE):
                 greeting = await self._exchange_greetings(reader, writer)
-            self._take_up(greeting, writer)
+            self._take_connection(greeting, writer)
             while self._writer is writer:
                 self._tie.on_message(await read_one(reader))
         except EOFError:
@@ -164,7 +164,7 @@ class Site:
             raise SiteRefused('it sends no greeting')
         return greeting
 
-    def _take_up(self, greeting: Greeting, writer: asyncio.StreamWriter) -> None:
+    def _take_connection(self, greeting: Greeting, writer: asyncio.StreamWriter) -> None:
         """Makes this the present connection; another one of the same run is dead and not yet closed."""
         if (task := asyncio.current_task()) in self._strangers:
             del self._strangers[task]

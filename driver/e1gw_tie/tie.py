@@ -37,7 +37,7 @@ class Tie:
     """Joins the circuits of the trunk here with those of the other site."""
 
     def __init__(self, options: TieOptions, run: str, tell: Tell) -> None:
-        self.options, self.tell = options, tell
+        self.options, self.put_report = options, tell
         self.own_greeting, self.start = Greeting(run, options.pairs), time.monotonic()
         self.site: Site | None = None
         self.circuits: dict[int, TieCircuit] = {}
@@ -73,7 +73,7 @@ class Tie:
             call = call_name(self._life, self._seizures[n]) if role is Role.INCOMING else known.call if known else None
             self.circuits[n] = start_circuit(known, TieCircuit(role, row.line.state, call, kept=kept))
         states = Counter(str(circuit.state) for circuit in self.circuits.values())
-        self.tell(TrunkFollowed(dict(sorted(states.items()))))
+        self.put_report(TrunkFollowed(dict(sorted(states.items()))))
         self.codecs.begin(status)
         self._join()
         self.on_status(status)
@@ -93,7 +93,7 @@ class Tie:
                     circuit = circuit.with_state(state, None if call == circuit.call else call)
                 if state is State.RELEASING and line.for_ >= STUCK and not circuit.stuck:
                     circuit = replace(circuit, stuck=True)
-                    self.tell(ReleaseStuck(n))
+                    self.put_report(ReleaseStuck(n))
                 self._set_circuit(n, circuit)
 
     def on_event(self, event: Told) -> None:
@@ -136,14 +136,14 @@ class Tie:
         """Gives a circuit the codec and the command that it needs."""
         if n not in self.there:
             return
-        self.codecs.give(n, self.circuits[n].state)
+        self.codecs.give_codec(n, self.circuits[n].state)
         if not self.trunk.is_up or n in self._busy:
             return
         link = self._link_of(n)
         marked_over = self.circuits[n].marked_over(link)
         if marked_over is not self.circuits[n]:
             self.given_up += 1
-            self.tell(CallOver(n, marked_over.call, link.value))
+            self.put_report(CallOver(n, marked_over.call, link.value))
             self.circuits[n] = marked_over
             self._send(n)
         command = marked_over.next_command(link, self.options.waits)
@@ -164,7 +164,7 @@ class Tie:
             del self._busy[n]
             return
         self.done[command.word, answer.short] += 1
-        self.tell(CommandAnswered(n, command.word, answer.short, round((loop.time() - began) * 1000, 2), why))
+        self.put_report(CommandAnswered(n, command.word, answer.short, round((loop.time() - began) * 1000, 2), why))
         if command is Command.SEIZE:
             self._set_circuit(n, self.circuits[n].with_attempt(far.call or NO_CALL if far else NO_CALL))
         if not answer.is_done or command is Command.ANSWER:
@@ -182,7 +182,7 @@ class Tie:
         """Notes whether the trunk here can carry calls."""
         if on != self.out_of_service:
             self.out_of_service = on
-            self.tell(Dark() if on else Light())
+            self.put_report(Dark() if on else Light())
             if self.site:
                 self.site.send(SiteState(on, {}))
             self._look_at_link()
@@ -204,7 +204,7 @@ class Tie:
 
     def _set_link(self, state: LinkState) -> None:
         self.link = state
-        self.tell(LinkChanged(state.value, self.far is not None, self.out_of_service, self.far_out_of_service))
+        self.put_report(LinkChanged(state.value, self.far is not None, self.out_of_service, self.far_out_of_service))
         self._look_at_all()
 
     # ---- the other site ----
@@ -212,7 +212,7 @@ class Tie:
     def on_connect(self, greeting: Greeting) -> None:
         self.there = agreed(self.options.pairs, greeting.pairs)
         left = sorted(set(agreed(self.options.pairs, None)) - set(self.there)) if greeting.pairs else []
-        self.tell(SiteCame(len(self.there), tuple(left)))
+        self.put_report(SiteCame(len(self.there), tuple(left)))
         self._send_all()
 
     def on_message(self, message: Message) -> None:
@@ -235,7 +235,7 @@ class Tie:
             self._look_at_all()
 
     def on_disconnect(self, why: str) -> None:
-        self.tell(SiteGone(why))
+        self.put_report(SiteGone(why))
         self.far = None
         self._look_at_link()
 
@@ -250,7 +250,7 @@ class Tie:
             if end.role is before.role:
                 alike.append(here)
         if alike:
-            self.tell(Warned('both ends have the same role', tuple(alike)))
+            self.put_report(Warned('both ends have the same role', tuple(alike)))
 
     def _send(self, n: int) -> None:
         if self.site and n in self.there:

@@ -87,7 +87,7 @@ class TrunkLink:
 
     def __init__(self, path: str, hold: float, tie: Tie) -> None:
         self.is_up = False                              # its status is known
-        self._path, self._hold, self._tie, self._tell = path, hold, tie, tie.tell
+        self._path, self._hold, self._tie, self._tell = path, hold, tie, tie.put_report
         self._writer: asyncio.StreamWriter | None = None
         self._asked: deque[asyncio.Future[str]] = deque()
         self.begin = Tasks().begin                      # to give a command

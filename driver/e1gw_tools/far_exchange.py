@@ -1,6 +1,6 @@
 """Both ends of a trunk for scripts: `e1gw serve` as a process, and the exchange that its trunk leads to."""
 import subprocess
-from typing import Any, NoReturn
+from typing import NoReturn
 
 from e1gw_common.session import FRAME, HEAD, MULTIFRAME, Command, Kind, command_record, trunk_record
 
@@ -19,10 +19,11 @@ class ServeProcess:
     """A running `e1gw serve`, or another subcommand that answers records. What it was given and what it has written is
     kept, record by record."""
 
-    def __init__(self, program: str, config: str, *options: str, subcommand: str = 'serve', **streams: Any) -> None:
+    def __init__(self, program: str, config: str, *options: str, subcommand: str = 'serve',
+                 stderr: int | None = None) -> None:
         self.process: subprocess.Popen[bytes] = subprocess.Popen(
             [program, subcommand, '--config', config, *options], stdin=subprocess.PIPE, stdout=subprocess.PIPE,
-            **streams)
+            stderr=stderr)
         assert self.process.stdin and self.process.stdout
         self.input, self.output = self.process.stdin, self.process.stdout
         self.given: list[bytes] = []

@@ -68,7 +68,7 @@ class PcapRepetitions:
         self.count += is_one
         return is_one
 
-    def tell(self) -> None:
+    def report_repetitions(self) -> None:
         if self.count:
             print(f'pcap: {self.count} of {self.every} packets are repetitions', file=sys.stderr)
 
@@ -222,7 +222,7 @@ def packets_of(streams: Iterable[Timed], asked: int | None, codecs: Announcement
             here, there = codecs.ends(record.circuit)
             yield time, packet(here, there, record.body) if went else packet(there, here, record.body)
     for each in again.values():
-        each.tell()
+        each.report_repetitions()
 
 
 def packet(source: tuple[bytes, int], target: tuple[bytes, int], body: bytes) -> bytes:
@@ -282,7 +282,7 @@ def write_records(source: BinaryIO, asked: int | None, sink: BinaryIO) -> None:
             sink.write(datagram_record(circuit, each.body))
         else:
             passed += 1
-    again.tell()
+    again.report_repetitions()
     if passed:
         print(f'{NAME}: skipped {passed} of {every} packets', file=sys.stderr)
 

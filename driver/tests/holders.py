@@ -50,7 +50,7 @@ class HolderCase(KeeperCase):
         os.environ |= around                    # (Manager.starts gives this on)
         try:
             with open(self.path('told'), 'ab') as told:
-                self.told_from = len(self.told())
+                self.told_from = len(self.read_log())
                 self.keeper = subprocess.Popen(self.words(), stderr=told, stdin=subprocess.DEVNULL) if is_by_hand else \
                     self.manager.starts(self.words(), told.fileno())
             self.addCleanup(self._end)
@@ -83,7 +83,7 @@ class HolderCase(KeeperCase):
     def settles(self) -> None:
         """Until systemd has all that the next one needs."""
         files = {'program', 'tried', *(f'log-{name}.{n}' for name in ('state', 'records') for n in '01')}
-        support.until(lambda: self.manager.told() and files <= {*self.manager.files}
+        support.until(lambda: self.manager.read_lines() and files <= {*self.manager.files}
                       and len(self.manager.files) == len(files) + 30 + 1)
 
     def asks(self, words: str) -> str:
@@ -93,8 +93,8 @@ class HolderCase(KeeperCase):
 
     def asking(self, words: str) -> socket.socket:
         """A connection at which a word was said."""
-        support.until(lambda: os.path.exists(self.places.hold))     # (a folder is made again before it is there)
-        line = support.connected(self.places.hold)
+        support.until(lambda: os.path.exists(self.places.hold_path))     # (a folder is made again before it is there)
+        line = support.connected(self.places.hold_path)
         line.sendall(f'{words}\n'.encode())
         return line
 

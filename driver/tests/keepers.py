@@ -126,7 +126,7 @@ class KeeperCase(support.FolderCase):
 
     # ---- what is said ----
 
-    def told(self) -> str:
+    def read_log(self) -> str:
         return support.text_of(self.path('told'))
 
     def awaits(self, pattern: str | re.Pattern[str]) -> re.Match[str]:
@@ -286,5 +286,5 @@ class KeeperCase(support.FolderCase):
     def ends(self) -> None:
         """It ends, and leaves nothing."""
         self.keeper.terminate()
-        self.assertEqual(self.keeper.wait(SECONDS), 0, self.told())
+        self.assertEqual(self.keeper.wait(SECONDS), 0, self.read_log())
         self.assertEqual(os.listdir(self.memory), [])

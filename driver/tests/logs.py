@@ -42,7 +42,7 @@ class LogCopy:
 
     def look(self) -> int:
         """Looks at more of it. Up to which place it is read."""
-        for news in self._reader.look():
+        for news in self._reader.read_news():
             if isinstance(news, LogBegun):
                 assert not self.state, 'it was written over'
                 self.state = news.state.state

@@ -58,7 +58,7 @@ class Manager:
         else:
             self.files[name] = file
 
-    def told(self) -> list[str]:
+    def read_lines(self) -> list[str]:
         """The lines of all that was told up to now."""
         self.take_all()
         return self._told

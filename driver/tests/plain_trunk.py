@@ -17,7 +17,7 @@ class PlainTrunk(WatchedTrunk):
 
     def __init__(self, reader: LogReader, folder: str, config: str, first: int = 0) -> None:
         self._reader, self._config, self.first = reader, config, first
-        self._places = SimpleNamespace(folder=folder, tell=f'{folder}/tell', control='')
+        self._places = SimpleNamespace(folder=folder, tell_path=f'{folder}/tell', control='')
 
     @property
     def reader(self) -> LogReader:

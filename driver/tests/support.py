@@ -55,12 +55,12 @@ def whole_lines(path: str) -> list[str]:
 
 def said_by(process: subprocess.Popen[bytes], path: str, pattern: str | re.Pattern[str], since: int) -> re.Match[str]:
     """What a process prints to a file behind this place, in whole lines, once it is so. (It may end behind it.)"""
-    def said() -> re.Match[str] | None:
+    def find_words() -> re.Match[str] | None:
         has_ended, text = process.poll() is not None, text_of(path)
         found = re.compile(pattern).search(text, since, text.rfind('\n') + 1)
         assert found or not has_ended, f'not said: {pattern}\n{text}'
         return found
-    return until(said, 0.002)
+    return until(find_words, 0.002)
 
 
 def octets_in(session: bytes) -> bytes:

@@ -202,11 +202,11 @@ class BilledTrunk:
         reader = readers.LogReader(self.path('log'), 0.1, None, lambda: None, lambda: b'')
         self.trunk = PlainTrunk(reader, self.folder, 'config')
         read, begun, note = pickle.loads(self.kept) if self.kept else (ReadingNote(), 0, None)
-        reader.take_up(read, None)
+        reader.restore_note(read, None)
         self.status = status = TellClient(self.trunk, 'west', self.tells, DatagramCounts(), self.waiting.append)
         status.waiting, status.changed = lambda: [*self.waiting], self.note
         if note:
-            status.take_up(note)
+            status.restore_note(note)
             self.waiting += [line for line in note.lines if line not in self.file]
         reader.told = lambda: status.lines.place
         self.connected = None
@@ -244,7 +244,7 @@ class BilledTrunk:
         """The service does what it has to do now."""
         self.logs()
         try:
-            self.trunk.reader.look()
+            self.trunk.reader.read_at_tick()
             if not self.program.lives and self.connected is not self.program:
                 self.starts()
             if self.m * MULTIFRAME == self.program.start:       # (clients come in behind a record)
@@ -394,10 +394,11 @@ class BillTests(PropertyCase):
         """A service of a trunk begins, and goes by its time."""
         held, clock = contextlib.ExitStack(), SimpleNamespace(time=lambda: trunk.now, monotonic=lambda: trunk.now)
 
-        def puts(path: str, octets: bytes) -> None:
+        def put_and_write(path: str, octets: bytes) -> None:
             trunk.writes()
             put_file(path, octets)
-        for module, name, its in ((statuses, 'time', clock), (readers, 'time', clock), (call_names, 'put_file', puts),
+        for module, name, its in ((statuses, 'time', clock), (readers, 'time', clock),
+                                  (call_names, 'put_file', put_and_write),
                                   (trunks, 'replay_reports', trunk.replay_reports),
                                   (statuses, 'read_config', lambda path: self.session.config)):
             held.enter_context(mock.patch.object(module, name, its))

@@ -99,11 +99,11 @@ class Trunk:
         answer = DONE if state else refused(why.words)._replace(refusal=why)
         self.reports.append(lambda: its.set_result(answer))
 
-    async def told(self) -> None:
+    async def tell_next(self) -> None:
         """The next report is told."""
         if self.reports:
             self.reports.popleft()()
-            self.watch.look()
+            self.watch.block_due()
         await asyncio.sleep(0)
 
     async def settles(self, *waits: asyncio.Task[Any]) -> None:
@@ -111,8 +111,8 @@ class Trunk:
             while self.asked or self.reports or not all(each.done() for each in waits):
                 if self.asked:
                     self.answers()
-                await self.told()
-            self.watch.look()
+                await self.tell_next()
+            self.watch.block_due()
             await asyncio.sleep(0)
 
     # ---- what happens, by its name ----
@@ -154,7 +154,7 @@ class Trunk:
             self.answers()
 
     async def tells(self, n: int) -> None:
-        await self.told()
+        await self.tell_next()
 
     async def dies(self, n: int) -> None:
         """The program: what it was asked is lost, and the next one tells how all lines stand."""
@@ -164,7 +164,7 @@ class Trunk:
         while self.reports:
             self.reports.popleft()()
         await passes()
-        self.watch.look()
+        self.watch.block_due()
         for n, line in self.view.lines.items():
             line.state = self.states[n]
         self.view.live = True
@@ -173,7 +173,7 @@ class Trunk:
         """The service: the numbers are kept."""
         self.begin(KeptInMemory(frozenset(self.watch.kept.now.circuits)))
 
-    async def goes(self, n: int) -> None:
+    async def move_trunk(self, n: int) -> None:
         """The trunk moves to the machine that knew of another circuit, and was told of these."""
         other = KeptInMemory(frozenset((n,)))
         await other.put(other.now.replace_all([*self.watch.kept.now.circuits]))
@@ -187,7 +187,7 @@ async def passes() -> None:
 
 
 STEPS = ('take', 'take_now', 'back', 'back_lost', 'exchange', 'exchange', 'client', 'client', 'program', 'tells',
-         'dies', 'restarts', 'goes')
+         'dies', 'restarts', 'move_trunk')
 
 
 class BlockTests(PropertyCase):
@@ -262,14 +262,15 @@ class BlockedTrunkTests(unittest.TestCase):
         self.assertEqual(world.ask('unblock 4 auto'), f'unblock 4: refused: {BY_OPERATOR}')
         os.kill(world.watcher(), signal.SIGKILL)        # (e1gw-trunk starts another one)
         world.connected()
-        support.until(lambda: [(row['state'], row['blocked']) for row in world.told()['circuits'][:5]] == [
+        support.until(lambda: [(row['state'], row['blocked']) for row in world.recent_status()['circuits'][:5]] == [
             ('answered', 'blocking'), ('acked', 'blocking'), ('idle', 'blocked'), ('blocked', 'blocked'),
             ('idle', None)])
         words = 'blocked by the operator: 3-4; blocking, until their calls have ended: 1-2'
         self.assertIn(f'\n{words}\n', world.ask('status'))
-        self.assertTrue(TrunkLine.from_status('west', typed(TrunkStatus, world.told())).state.endswith(f'; {words}'))
+        line = TrunkLine.from_status('west', typed(TrunkStatus, world.recent_status()))
+        self.assertTrue(line.state.endswith(f'; {words}'))
         self.assertTrue(world.ask('status 3').endswith('\nblocked by the operator: 3'))
-        self.assertIn('e1gw_circuit_blocked{circuit="1"} 1\n', exposition(typed(TrunkStatus, world.told())))
+        self.assertIn('e1gw_circuit_blocked{circuit="1"} 1\n', exposition(typed(TrunkStatus, world.recent_status())))
         self.assertEqual(json.loads(support.text_of(world.path('state.blocked'))), [1, 2, 3, 4])
         events = world.follow()
         self.addCleanup(events.close)
@@ -283,5 +284,5 @@ class BlockedTrunkTests(unittest.TestCase):
         self.assertEqual([next(told) for _ in range(4)], [
             ('blocked', [2]), ('the operator blocks them', [1]), ('blocked', [1]), ('unblocked', [1, 2, 3, 4])])
         self.assertEqual(world.ask('unblock 1-4'), 'unblock 1-4: refused: not blocked')
-        world.until(lambda: {row['state'] for row in world.told()['circuits'][:4]} == {'idle'})
-        self.assertEqual({row['blocked'] for row in world.told()['circuits']}, {None})
+        world.until(lambda: {row['state'] for row in world.recent_status()['circuits'][:4]} == {'idle'})
+        self.assertEqual({row['blocked'] for row in world.recent_status()['circuits']}, {None})

@@ -25,7 +25,7 @@ class CallEndTests(unittest.TestCase):
             calls.on_state_change(LineChanged(1, Role.OUTGOING, was, state, 100))
             lines[1].unacknowledged += state is State.SEIZED
         self.assertEqual(rows, [])                  # (they are noted first)
-        calls.give()
+        calls.put_lines()
         self.assertEqual(rows, ['west,1,outgoing,2001-09-09T01:46:40.000Z,,2001-09-09T01:46:41.999Z,not acknowledged,'
                                 'pcma,0,0,0,0,-1-0,0,'])
 
@@ -107,7 +107,7 @@ class CalledTrunk:
             self.ends(n, away or ('fault' if state is State.FAULT else 'not acknowledged' if is_refused else
                                   'gateway' if ours else 'exchange'), 'before' if away else line.codec)
         self.calls.on_state_change(LineChanged(n, Role.OUTGOING, was, state, 0, True if away else None))
-        self.calls.give()
+        self.calls.put_lines()
 
     def leaves(self, states: tuple[State, State], is_reload: bool) -> None:
         """Nobody tells, and then one does. With a reload circuit 1 is begun as new meanwhile."""
@@ -135,7 +135,7 @@ class CalledTrunk:
         note = self.calls.note(0, 0, self.day, ())
         codecs, begun = {call.circuit: call.codec for call in note.calls}, set[int]()
         self.calls = CallLog('west', self.lines, self.counts, self.put, lambda: self.day)
-        self.calls.take_up(note)
+        self.calls.restore_note(note)
         for (n, line), state in zip(self.lines.items(), states):
             was, line.state = line.state, state
             is_new = state in IN_CALL and (was not in IN_CALL or is_another and n in self.numbered)
@@ -146,7 +146,7 @@ class CalledTrunk:
                 self.begins(n, '')
                 begun.add(n)
         self.calls.on_session_start('life')
-        self.calls.give()
+        self.calls.put_lines()
         self.numbered = {*self.open} - begun
 
     def takes(self, n: int, count: int) -> None:
@@ -199,7 +199,7 @@ class NamingTests(support.FolderCase):
         of a line that is in a call."""
         first = self.naming()
         self.assertEqual(self.counts(first, 'a', 5), 5)
-        first.look({1: Line(1, seizures=7, state=State.ACKED)})
+        first.note_states({1: Line(1, seizures=7, state=State.ACKED)})
         self.assertEqual(self.counts(first, 'b', 0, State.ANSWERED), 7)
         self.assertEqual(self.counts(first, 'b', 2), 9)
         for session, told, state, count in (

@@ -128,7 +128,7 @@ class SetUpTests(unittest.TestCase):
             self.assertEqual(channel.asked, [])
 
     def test_who_was_started_by_a_descriptor(self) -> None:
-        """Has the name of its command line: that of the descriptor would be its number."""
+        """Its name is that of its command line. The name of the descriptor would be a number."""
         with open('/bin/cat', 'rb') as file, subprocess.Popen(
                 ['e1gw'], executable=f'/proc/self/fd/{file.fileno()}', pass_fds=[file.fileno()],
                 stdin=subprocess.PIPE, stdout=subprocess.PIPE, bufsize=0) as process:
@@ -193,7 +193,7 @@ class CardWatchTests(unittest.TestCase):
                 (16 | 32, ('card: LOOPBACK alarm over', 'card: YELLOW alarm over', 'card: BLUE', 'card: NOT OPEN'),
                  'the card is in alarm: BLUE, NOT OPEN'), (0, ('card: BLUE', 'card: NOT'), None)):
             self.span = replace(self.span, alarms=Alarm(alarms))
-            watch.look(3)
+            watch.read_alarms(3)
             told = self.words()
             self.assertEqual(len(told), len(begins))
             self.assertTrue(all(map(str.startswith, told, begins)), told)
@@ -203,7 +203,7 @@ class CardWatchTests(unittest.TestCase):
         """What another watcher has told is not told again."""
         self.span = replace(self.span, alarms=Alarm(4))
         watch = self.watch(8 | 4)
-        watch.look(3)
+        watch.read_alarms(3)
         self.assertEqual((self.words(), watch.as_told), (['card: RED alarm over'], 4))
 
     def test_status(self) -> None:
@@ -211,18 +211,18 @@ class CardWatchTests(unittest.TestCase):
         watch = self.watch()
         self.assertIsNone(watch.status())
         self.span = replace(self.span, alarms=Alarm.RED, counts=self.span.counts | {'errored_seconds': 7})
-        watch.look(3)
+        watch.read_alarms(3)
         self.assertEqual({name: n for name, n in plain_of(watch.status()).items() if n},
                          {'span': 3, 'red': 1, 'errored_seconds': 7})
         self.fault = errno.ENODEV
         with self.assertLogs('e1gw.watcher.card') as logs:
             for _ in range(3):
-                watch.look(3)
+                watch.read_alarms(3)
         self.assertEqual((len(logs.records), watch.status(), watch.outage()), (1, None, None))
         self.fault = 0
-        watch.look(3)
+        watch.read_alarms(3)
         self.assertEqual(plain_of(watch.status())['span'], 3)
-        watch.look(0)
+        watch.read_alarms(0)
         self.assertIsNone(watch.status())
 
     def test_what_the_driver_is_asked(self) -> None:

@@ -33,28 +33,28 @@ class ClearingTests(unittest.TestCase):
         cleared: list[str] = []
         watch, never = OutageWatch(3.0, cleared.append), OutageWatch(None, cleared.append)
         for now, outage in ((100.0, 'dark'), (102.0, None), (103.0, 'dark'), (105.9, 'dark')):
-            watch.look(now, outage)
-            never.look(now + 1000 * now, outage)
+            watch.clear_due(now, outage)
+            never.clear_due(now + 1000 * now, outage)
         self.assertEqual(cleared, [])
         for now in (106.0, 120.0):
-            watch.look(now, 'dark')
+            watch.clear_due(now, 'dark')
         self.assertEqual(cleared, ['the trunk has been dark for 3 s'])
         watch = OutageWatch(0.5, cleared.append)            # (that has known no trunk in service)
-        watch.look(7.0, 'dark')
-        watch.look(7.5, 'dark')
+        watch.clear_due(7.0, 'dark')
+        watch.clear_due(7.5, 'dark')
         self.assertEqual(cleared[1:], ['the trunk has been dark for 0.5 s'])
 
     def test_a_silent_client(self) -> None:
         """Three seconds behind the one of silence by which it counts as gone calls are cleared, and not again."""
         cleared, now = list[float](), 100.0
         watch = DisconnectWatch(DisconnectPolicy(), lambda why, blocks: cleared.append(now))
-        watch.look(now)
+        watch.clear_due(now)
         watch.request('one', ['clear', '3', 'alive', '1'], now)
         watch.request('other', ['clear', '9', 'alive', '7'], now)
         watch.on_disconnect('other', now)
         for _ in range(80):
             now += LOOK
-            watch.look(now)
+            watch.clear_due(now)
         self.assertEqual(cleared, [103.0])
 
     def test_each_line_is_a_sign(self) -> None:
@@ -126,7 +126,7 @@ class ClearingPropertyTests(PropertyCase):
         def check(chosen: list[tuple[Any, Any, str]]) -> None:
             clients, cleared, now = RememberedClients(DisconnectPolicy(2.0, True)), list[bool](), 0.0
             watch = DisconnectWatch(clients.usual, lambda _, blocks: cleared.append(blocks))
-            watch.look(now)
+            watch.clear_due(now)
             ends = [('leaves', each, '') for each in ('one', 'two')]
             for what, how, words in [*chosen, *ends, (32, LOOK, '')]:
                 if what == 'asks':
@@ -138,7 +138,7 @@ class ClearingPropertyTests(PropertyCase):
                 for _ in range(what if isinstance(what, int) else 0):
                     now += how
                     clients.goes_on(how, now)
-                    watch.look(now)
+                    watch.clear_due(now)
                     self.assertEqual(cleared, [clients.wish.blocks] * (now >= clients.due))
                     if cleared:
                         cleared.clear()

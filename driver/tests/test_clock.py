@@ -29,7 +29,7 @@ class ClockedTrunk:
     def looked_late(self, seconds: float) -> None:
         """Nobody looks for so long, and then one does."""
         self.now += seconds
-        self.found += self.clock.look(self.now)
+        self.found += self.clock.find_changes(self.now)
         self._look = self.now + TICK
 
     def overtaken(self, seconds: float) -> None:
@@ -51,7 +51,7 @@ class ClockedTrunk:
     def _wait(self, seconds: float) -> None:
         self.now += seconds
         while self._look <= self.now:
-            self.found += self.clock.look(self._look)
+            self.found += self.clock.find_changes(self._look)
             self._look += TICK
 
 

@@ -47,7 +47,7 @@ class CodecOfACallTests(unittest.TestCase):
         self.addCleanup(world.__exit__)
 
         def codecs() -> list[str]:
-            return [row['codec'] for row in world.told()['circuits'][:2]]
+            return [row['codec'] for row in world.recent_status()['circuits'][:2]]
         aligned(world)
         call(world, 1)
         for n in 1, 2:
@@ -114,7 +114,7 @@ class IdleReloadTests(unittest.TestCase):
         self.addCleanup(world.__exit__)
 
         def rows() -> list[tuple[str, str]]:
-            return [(row['state'], row['codec']) for row in world.told()['circuits'][:2]]
+            return [(row['state'], row['codec']) for row in world.recent_status()['circuits'][:2]]
         aligned(world)
         call(world, 1)
         text = support.text_of(world.config)
@@ -123,12 +123,12 @@ class IdleReloadTests(unittest.TestCase):
                          'change when their calls end\nreload: done')
         world.connected()
         world.until(lambda: rows() == [('answered', 'pcma'), ('idle', 'g726-32')])
-        support.until(lambda: bool(world.known()['waiting'] == [1]))
+        support.until(lambda: bool(world.status_at_once()['waiting'] == [1]))
         self.assertIn('\nchange to what is configured when their calls end: 1\n', world.ask('status'))
         os.kill(world.watcher(), signal.SIGKILL)
         world.connected()
         self.assertEqual(world.ask('clear 1'), 'clear 1: done')
-        world.until(lambda: not world.told()['waiting'] and rows() == [('idle', 'g726-32')] * 2)
+        world.until(lambda: not world.recent_status()['waiting'] and rows() == [('idle', 'g726-32')] * 2)
         self.assertEqual(world.ask('reload').splitlines()[-2:], [
             'reload: nothing to do: this program and this configuration run', 'reload: done'])
 
@@ -142,8 +142,8 @@ class IdleReloadTests(unittest.TestCase):
         done = subprocess.run(words, capture_output=True, text=True, check=False)
         self.assertEqual((done.stdout.splitlines(), done.returncode, done.stderr), (
             ['codec 1: done', 'reload: circuits 1 change when their calls end', 'reload: done'], 0, ''))
-        support.until(lambda: bool(world.known()['waiting'] == [1]))
+        support.until(lambda: bool(world.status_at_once()['waiting'] == [1]))
         self.assertEqual(world.state(1), 'answered')
         self.assertEqual(world.ask('clear 1'), 'clear 1: done')
         world.until(lambda: [('g726-32', 'g726-32'), ('pcma', 'pcma')] == [
-            (row['codec'], row['configured_codec']) for row in world.told()['circuits'][:2]])
+            (row['codec'], row['configured_codec']) for row in world.recent_status()['circuits'][:2]])

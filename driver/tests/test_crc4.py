@@ -61,21 +61,22 @@ class Crc4CountTests(unittest.TestCase):
 
 
 class SlotsTests(unittest.TestCase):
-    def told(self, known: Slots, *lines: str) -> list[str]:
+    def words_after(self, known: Slots, *lines: str) -> list[str]:
         return [event.words() for line in lines for event in known.take(line)]
 
     def test_what_the_program_says(self) -> None:
         """The first find is compared with none; later ones also if another program or service follows."""
         known = Slots()
         for other in 'slots', 'slots found', 'slots found x', 'slots lost 3', 'slot found 3', 'live slots lost':
-            self.assertEqual(self.told(known, other), [])
+            self.assertEqual(self.words_after(known, other), [])
         self.assertTrue(known.status().silent)
-        self.assertEqual(self.told(known, 'slots found 30', 'slots lost', 'slots found 30'), [FOUND, LOST, FOUND])
+        self.assertEqual(self.words_after(known, 'slots found 30', 'slots lost', 'slots found 30'),
+                         [FOUND, LOST, FOUND])
         self.assertFalse(known.status().silent)
         known.on_next_program()
         self.assertTrue(known.status().silent)
         later = Slots()
-        later.take_up(known.note())
+        later.restore_note(known.note())
         for n, by in (2, 3), (0, 29):
-            self.assertEqual(self.told(later, f'slots found {n}'), [MOVED.format(by)])
+            self.assertEqual(self.words_after(later, f'slots found {n}'), [MOVED.format(by)])
         self.assertEqual(later.status(), SlotsStatus('clear', False, 1, 2))

@@ -200,16 +200,16 @@ class CtlAnswerTests(CtlAnswerCase):
         ours, trunk = socket.socketpair()
         trunk.sendall(b'events: done\n\n')
 
-        def tell() -> None:
+        def send_event() -> None:
             with trunk:
                 self.assertEqual(trunk.recv(100), b'events\n')
                 trunk.sendall(b'{"event": 1}\n')
         with mock.patch.object(ctl, 'connected', return_value=ours):
-            threading.Timer(0.2, tell).start()
+            threading.Timer(0.2, send_event).start()
             self.assertEqual(self.ctl('west', 'events', patience=0.05), (0, ['{"event": 1}'], ''))
 
     def test_who_may_not_command(self) -> None:
-        """Is told the group that may."""
+        """The words name the group whose members may."""
         path = self.trunks['west'].path
         fault = control_sockets.with_group(PermissionError(errno.EACCES, 'Permission denied'), path)
         self.assertEqual(words_of_fault(fault), f'{path}: Permission denied; it is for the group {group_of(path)}')

@@ -24,7 +24,7 @@ from e1gw.watcher.page import body_of, ended_row, parts_of
 SECOND = OCTETS_A_SECOND
 
 
-def told(accepted: int = 0, **refused: int) -> ToldCounts:
+def told_counts(accepted: int = 0, **refused: int) -> ToldCounts:
     return ToldCounts(accepted, refused=tuple(refused.get(reason.label, 0) for reason in DatagramRefusal))
 
 
@@ -32,7 +32,7 @@ class HearingTests(unittest.TestCase):
     """Answered at second 10 of the trunk."""
 
     def why(self, at: float, *seen: tuple[float, ToldCounts]) -> str:
-        hearing = Hearing(told(7), 10 * SECOND)
+        hearing = Hearing(told_counts(7), 10 * SECOND)
         for second, each in seen:
             hearing = hearing.updated(each, round(second * SECOND))
         return hearing.why_deaf(round(at * SECOND))
@@ -40,17 +40,19 @@ class HearingTests(unittest.TestCase):
     def test_from_when_on(self) -> None:
         """Two seconds of the trunk behind the answer, or behind the last packet that was accepted."""
         self.assertEqual([self.why(at) for at in (11.99, 12)], ['', 'no packets'])
-        self.assertEqual([self.why(at, (11, told(8)), (13, told(8))) for at in (12.99, 13)], ['', 'no packets'])
-        self.assertEqual(self.why(14, (11, told(7, Late=50)), (13.9, told(8, Late=60))), '')
+        self.assertEqual([self.why(at, (11, told_counts(8)), (13, told_counts(8))) for at in (12.99, 13)],
+                         ['', 'no packets'])
+        self.assertEqual(self.why(14, (11, told_counts(7, Late=50)), (13.9, told_counts(8, Late=60))), '')
 
     def test_causes(self) -> None:
         """That of the discards in these two seconds; what came before the answer is of no call."""
-        wrong = told(7, PayloadType=3)
+        wrong = told_counts(7, PayloadType=3)
         rows: list[tuple[float, list[tuple[float, ToldCounts]], str]] = [
                 (13.9, [(12, wrong)], 'PayloadType'), (14, [(12, wrong)], 'no packets'),
-                (13, [(12, wrong), (12.5, told(7, PayloadType=3, WrongSource=1))], 'WrongSource'),
-                (13, [(12, told(7, Late=2, Full=9))], 'Full'), (12, [(10.2, told(7, NotOpen=9))], 'no packets'),
-                (13, [(12, told(7, PayloadType=1)), (12.5, told(7))], 'PayloadType')]
+                (13, [(12, wrong), (12.5, told_counts(7, PayloadType=3, WrongSource=1))], 'WrongSource'),
+                (13, [(12, told_counts(7, Late=2, Full=9))], 'Full'),
+                (12, [(10.2, told_counts(7, NotOpen=9))], 'no packets'),
+                (13, [(12, told_counts(7, PayloadType=1)), (12.5, told_counts(7))], 'PayloadType')]
         for at, seen, cause in rows:
             self.assertEqual(self.why(at, *seen), cause, seen)
 
@@ -58,20 +60,21 @@ class HearingTests(unittest.TestCase):
         """That it begins and that it ends, once, for all circuits of one cause; also if the call ends; another watcher
         tells nothing of it again."""
         events = list[Event]()
-        calls, late = DeafCalls(events.append), told(0, Late=9)
+        calls, late = DeafCalls(events.append), told_counts(0, Late=9)
         for second in range(4):
-            calls.look(second * SECOND, {1: told(), 2: told(second), 3: told(), 4: told(0, Late=second)})
+            calls.update_hearings(second * SECOND, {1: told_counts(), 2: told_counts(second), 3: told_counts(),
+                                                    4: told_counts(0, Late=second)})
         begun = [CallsDeaf(True, (4,), 'Late'), CallsDeaf(True, (1, 3), 'no packets')]
         self.assertEqual((events, calls.causes), (begun, {1: 'no packets', 3: 'no packets', 4: 'Late'}))
         events.clear()
         later = DeafCalls(events.append)
-        later.take_up(calls.causes)
+        later.restore_causes(calls.causes)
         for second in 9, 10:
-            later.look(second * SECOND, {1: told(), 2: told(), 3: told(), 4: late})
+            later.update_hearings(second * SECOND, {1: told_counts(), 2: told_counts(), 3: told_counts(), 4: late})
         self.assertEqual((events, later.causes), ([], calls.causes))
         later.forget(1)
         later.forget(2)
-        later.look(11 * SECOND, {1: told(), 3: told(5), 4: late})
+        later.update_hearings(11 * SECOND, {1: told_counts(), 3: told_counts(5), 4: late})
         self.assertEqual(events, [CallsDeaf(False, (1,)), CallsDeaf(False, (3,))])
         self.assertEqual([each.words() for each in (*begun, *events)], [
             'circuits 4 hear nothing: Late', 'circuits 1, 3 hear nothing: no packets', 'circuits 1 hear nothing: over',
@@ -98,7 +101,7 @@ class DeafTrunkCase(TrunkWatchCase):
 class DeafTrunkTests(DeafTrunkCase):
     async def test_where_it_is_shown(self) -> None:
         found = await self.deaf()
-        status = found.known()
+        status = found.known_status()
         words = 'hears nothing: 5 (no packets), 7 (PayloadType)'
         self.assertEqual({row.line.circuit: row.deaf for row in status.circuits if row.deaf},
                          {5: 'no packets', 7: 'PayloadType'})
@@ -124,16 +127,17 @@ class DeafTrunkTests(DeafTrunkCase):
         note = found.client.calls.note(0, 0, 0.0, ())
         self.assertEqual([note.circuits[n].packets.cause for n in (3, 5, 7)], ['', '', 'PayloadType'])
         later = self.watched()
-        later.client.calls.take_up(note)
+        later.client.calls.restore_note(note)
         later._lines.begin(0)
         lines = [*BEGIN, row(7, 'answered', '00 11'), counts(7, 0, PayloadType=9, Late=30), 'now']
         later._lines.take('\n'.join([*lines, counts(7, 0, PayloadType=9, Late=40), '']).encode())
         self.assertEqual(self.discarded(later), ('0', '49', 'PayloadType'))
 
     async def test_the_next_call(self) -> None:
-        """Begins anew, also if nobody has looked in between. What came while there was none is not of it."""
+        """The count begins anew with a call, also if nobody has looked between two calls. Packets that came between
+        them are in neither."""
         found, calls = await self.deaf(), list[Event]()
-        setattr(found.client, 'tell', found.tell)
+        setattr(found.client, 'report_event', found.report_event)
         setattr(found._deaf, '_tell', calls.append)
         states = [row(7, state, '00 11') for state in ('releasing', 'idle', 'seized', 'acked', 'answered')]
         found._lines.take('\n'.join([*states[:2], counts(7, 0, PayloadType=9, NotOpen=5), *states[2:], '']).encode())

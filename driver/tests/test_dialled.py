@@ -34,7 +34,7 @@ class DialledWorld(World):
 
     def step(self, multiframes: int = 1) -> None:
         for _ in range(multiframes):
-            self._received = self.give(self.openr2.step(self._received))
+            self._received = self.exchange_octets(self.openr2.step(self._received))
 
     def __exit__(self, *_: object) -> None:
         self.openr2.end()

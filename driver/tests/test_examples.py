@@ -139,18 +139,18 @@ class PlayedFrontEndTests(unittest.IsolatedAsyncioTestCase):
         """A call is made and answered."""
         await self.sends('INVITE', call)
         for state in ('seized', 'acked', 'answered'):
-            self.end.changed(circuit, state)
+            self.end.on_state(circuit, state)
         self.assertEqual(self.trunk.said[-1], 'SIP/2.0 200 OK')
 
     async def test_the_codec_of_the_answer(self) -> None:
         """It is set before each seizure, since it ends with the call; a circuit that does not take it gets no call."""
         await self.is_up()
         await self.sends('BYE')
-        self.end.changed(1, 'idle')
+        self.end.on_state(1, 'idle')
         await self.sends('INVITE', 'b')
         self.assertEqual(self.trunk.asked, [*['codec 1 pcma 8 auto', 'seize 1', 'clear 1'], 'codec 1 pcma 8 auto',
                                             'seize 1'])
-        self.end.changed(1, 'idle')
+        self.end.on_state(1, 'idle')
         await self.done()
         self.trunk.asked.clear()
         self.trunk.refused = {'codec 1 pcma 8 auto'}
@@ -170,8 +170,8 @@ class PlayedFrontEndTests(unittest.IsolatedAsyncioTestCase):
         self.end.end_silent()
         await self.done()
         self.assertEqual((self.trunk.asked[-1], self.trunk.said[-1]), ('clear 1', 'BYE sip:127.0.0.1 SIP/2.0'))
-        self.end.changed(1, 'releasing')
-        self.end.changed(1, 'idle')
+        self.end.on_state(1, 'releasing')
+        self.end.on_state(1, 'idle')
         self.end.end_silent()
         self.assertEqual(self.trunk.said[-1], 'BYE sip:127.0.0.1 SIP/2.0')
         await self.is_up('b')
@@ -182,14 +182,14 @@ class PlayedFrontEndTests(unittest.IsolatedAsyncioTestCase):
         that is not answered yet may be silent."""
         await self.is_up()
         await self.sends('INVITE', 'b')
-        self.end.changed(2, 'acked')
+        self.end.on_state(2, 'acked')
         await self.sends('INVITE', 'c')
         self.assertEqual(self.trunk.said[-1], 'SIP/2.0 503 Service Unavailable')
         self.now += 30.0
         self.end.end_silent()
         await self.done()
         self.assertEqual([line for line in self.trunk.asked if line.startswith('clear')], ['clear 1'])
-        self.end.changed(1, 'idle')
+        self.end.on_state(1, 'idle')
         await self.is_up('d')
         await self.sends('BYE')             # (which comes after all, of a call that has ended)
         self.assertEqual(self.trunk.said[-1], 'SIP/2.0 481 Call Does Not Exist')
@@ -208,7 +208,7 @@ class PlayedFrontEndTests(unittest.IsolatedAsyncioTestCase):
     async def test_it_looks_each_second(self) -> None:
         self.end.end_silent = mock.Mock(side_effect=EOFError)
         with mock.patch.object(sys.modules['front_end'], 'EACH', 0.0), self.assertRaises(EOFError):
-            await self.end.look()
+            await self.end.watch_silence()
 
 
 class SipFrontEndTests(support.FolderCase):

@@ -2,19 +2,21 @@
 from __future__ import annotations
 
 import asyncio
+import errno
 import json
 import math
 import os
+import shutil
 import socket
 import ssl
 import subprocess
 import threading
 import time
 import unittest
-from contextlib import nullcontext, suppress
+from contextlib import closing, nullcontext, suppress
 from itertools import accumulate
 from types import SimpleNamespace
-from typing import Sequence
+from typing import Callable, Sequence
 from unittest import mock
 
 from . import support
@@ -25,7 +27,7 @@ from e1gw.holder_state import TrunkPlaces
 from e1gw.watcher import standby
 from e1gw.watcher.blocks import BlockedCircuits, KeptBlocks
 from e1gw.watcher.feed import BACK, CARRIES, LENGTH, MARK, MOST_PIECE, PIECE, STATE, TAKES, FeedServer
-from e1gw.log_folder import STATE_ROOM, LogPair
+from e1gw.log_folder import STATE_ROOM, LogFiles, LogPair
 from e1gw.watcher.missed import pass_octets
 from e1gw.watcher.reader import LogReader
 from e1gw.watcher.standby import NO_CERTIFICATE, NO_TRUNK, FedLog, TrunkStandby
@@ -205,11 +207,11 @@ class FeedTests(support.LoopCase):
         left, found = iter(rows), list[str]()
         its: TrunkStandby
 
-        def came(_: asyncio.StreamReader, writer: asyncio.StreamWriter) -> None:
+        def serve_standby(_: asyncio.StreamReader, writer: asyncio.StreamWriter) -> None:
             found.append(its.why)
             writer.write(next(left, (b'', ''))[0])
             writer.close()
-        server = await asyncio.start_server(came, HOST, 0)
+        server = await asyncio.start_server(serve_standby, HOST, 0)
         self.addCleanup(server.close)
         self.place = server.sockets[0].getsockname()
         its = self.stands_by()
@@ -310,6 +312,36 @@ class FedLogTests(support.FolderCase):
         second.close()
         self.assertEqual((os.listdir(self.folder), self.held()), ([], []))
 
+    def test_one_is_there_at_each_step(self) -> None:
+        """A holder that takes the trunk while another log comes in place of one finds a log, and so it does if the
+        watcher dies then; where folders cannot be exchanged, at the end."""
+        fed = TrunkPlaces(self.folder).fed
+        for fault in None, errno.EINVAL:
+            logs = [FedLog(self.folder, 0, 0) for _ in range(2)]
+            steps = list[tuple[str, bytes]]()
+
+            def stop_behind(name: str, call: Callable[..., object]) -> Callable[..., None]:
+                def step(*words: str, **more: bool) -> None:
+                    if name == 'exchange' and fault:
+                        raise OSError(fault, os.strerror(fault))
+                    call(*words, **more)
+                    with closing(LogFiles(fed)) as files:
+                        steps.append((name, (files.last() or LogPair(0, 0, b'', b'')).state))
+                return step
+            for state, each in zip((b'first', b'second'), logs):
+                each.begin(state)
+            logs[0].move_to(fed)
+            removes = mock.Mock(rmtree=stop_behind('remove', shutil.rmtree))
+            renames = os.rename if fault else stop_behind('rename', os.rename)
+            exchanges = stop_behind('exchange', standby.exchange_folders)
+            with mock.patch.multiple(standby, shutil=removes, exchange_folders=exchanges), \
+                    mock.patch.object(os, 'rename', renames):
+                logs[1].move_to(fed)
+            self.assertEqual(steps, [('exchange', b'second')] * (not fault) + [('remove', b'second')])
+            self.assertEqual(os.listdir(self.folder), ['fed'])
+            for each in logs:
+                each.close()
+
     def test_who_may_write(self) -> None:
         """This process, until it says that it writes no more; and not once somebody has taken it."""
         fed, path = FedLog(self.folder, 0, 0), TrunkPlaces(self.folder).fed
@@ -400,7 +432,7 @@ class StandbyTests(support.LoopCase):
         its.publish(None)
         self.assertEqual((os.listdir(self.folder), self.held()), ([], []))
 
-    async def said(self, *words: int) -> tuple[float, list[bool]]:
+    async def last_words(self, *words: int) -> tuple[float, list[bool]]:
         """What it says last, and whether it gives the trunk back, if the other machine has said this and leaves."""
         handed, reader, writer = list[bool](), asyncio.StreamReader(), mock.Mock()
         writer.is_closing.return_value = False
@@ -414,9 +446,9 @@ class StandbyTests(support.LoopCase):
     async def test_what_the_other_machine_says(self) -> None:
         """One that stood still would carry it beside the machine that had taken it back. One that dies takes nothing
         back."""
-        self.assertEqual([await self.said(BACK), await self.said()], [(TAKES, [False]), (CARRIES, [])])
+        self.assertEqual([await self.last_words(BACK), await self.last_words()], [(TAKES, [False]), (CARRIES, [])])
 
-    async def told(self, carried: bool, leaves: bool) -> list[bytes]:
+    async def words_to_standby(self, carried: bool, leaves: bool) -> list[bytes]:
         """What a machine says to the standby to which it hands the trunk over, if that carries it, or leaves, or is
         silent."""
         its, left = FeedServer('', mock.Mock()), asyncio.Future[None]()
@@ -432,4 +464,5 @@ class StandbyTests(support.LoopCase):
         """It says so within a second, if the standby does not say that it carries the trunk."""
         for carried, leaves in (False, False), (False, True), (True, False):
             with self.subTest(carried=carried, leaves=leaves):
-                self.assertEqual(await self.told(carried, leaves), [] if carried else [PIECE.pack(0.0, BACK)])
+                self.assertEqual(await self.words_to_standby(carried, leaves),
+                                 [] if carried else [PIECE.pack(0.0, BACK)])

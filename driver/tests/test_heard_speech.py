@@ -52,7 +52,7 @@ class HeardSpeechTests(unittest.TestCase):
             self.assertEqual(found.why_wrong(), words, (octets, codec, step, lost))
 
     def test_another_call(self) -> None:
-        """Begins anew, and a sender that is mended in the call is told no more."""
+        """What was heard before does not count in another call. Once a sender is mended nothing more is said of it."""
         found = heard([b'\xd5' * 80] * 150)
         self.assertTrue(found.why_wrong())
         for n in range(FIRST * 2 ** 4 * EACH_TWICE):
@@ -83,7 +83,7 @@ class HeardTrunkTests(DeafTrunkCase):
         for n, payload in enumerate([*packets(coded('mu', 3.0, 0.1))]):
             found.counts.take_records(b''.join(datagram_record(each, rtp(n, STEP * n, 7, payload=payload))
                                                for each in (3, 4)))
-        status = found.known()
+        status = found.known_status()
         self.assertEqual({row.line.circuit: row.packets.speech for row in status.circuits if row.packets.speech},
                          {3: 'reads like mu-law'})
         tile = body_of('c', parts_of(status, mock.Mock(events=(), ended=()))['c3'])

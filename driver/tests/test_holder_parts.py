@@ -63,7 +63,7 @@ class StoreTests(FolderCase):
         for file in self.files.values():
             self.addCleanup(os.close, file)
 
-    def told(self) -> list[str]:
+    def take_lines(self) -> list[str]:
         """What systemd takes now."""
         found = list[str]()
         with contextlib.suppress(BlockingIOError):
@@ -79,41 +79,41 @@ class StoreTests(FolderCase):
         self.store.keep(self.files)
         self.store.notify('READY=1')
         self.assertTrue(self.store.lags)
-        told = self.told()
+        told = self.take_lines()
         self.assertEqual(told[:2], ['FDSTORE=1', 'FDNAME=line-in'])
         while self.store.lags:
             self.store.send()
-            told += self.told()
+            told += self.take_lines()
         self.assertEqual([each[7:] for each in told if each.startswith('FDNAME=')], [*self.files])
         self.assertEqual(told.count('READY=1'), 1)
         self.store.send()
-        self.assertEqual(self.told(), [])
+        self.assertEqual(self.take_lines(), [])
 
     def test_another_file_of_the_same_name(self) -> None:
         self.store.keep({'a': self.files['1'], 'b': self.files['2']})
-        self.told()
+        self.take_lines()
         self.store.keep({'a': self.files['3']})
-        self.assertEqual(self.told(), ['FDSTOREREMOVE=1', 'FDNAME=a', 'FDSTOREREMOVE=1', 'FDNAME=b',
+        self.assertEqual(self.take_lines(), ['FDSTOREREMOVE=1', 'FDNAME=a', 'FDSTOREREMOVE=1', 'FDNAME=b',
                                        'FDSTORE=1', 'FDNAME=a', 'FDPOLL=0'])
         self.store.forget()
-        self.assertEqual(self.told(), ['FDSTOREREMOVE=1', 'FDNAME=a'])
+        self.assertEqual(self.take_lines(), ['FDSTOREREMOVE=1', 'FDNAME=a'])
 
     def test_closed_meanwhile(self) -> None:
         """It is not given, nor another file of its number; one that was given stays until others are to be kept."""
         first, second = (in_memory(name) for name in (b'first', b'second'))
         self.store.keep({'first': first})
-        with mock.patch.object(self.store, 'tell', return_value=False):
+        with mock.patch.object(self.store, 'send_message', return_value=False):
             self.store.keep({'first': first, 'second': second})
         os.close(first)
         os.dup2(self.files['1'], second)
-        self.told()
+        self.take_lines()
         self.store.notify('READY=1')
-        self.assertEqual((self.told(), self.store.lags), (['READY=1'], False))
+        self.assertEqual((self.take_lines(), self.store.lags), (['READY=1'], False))
         os.close(second)
         self.store.notify('READY=1')
-        self.assertEqual((self.told(), self.store.lags), (['READY=1'], False))
+        self.assertEqual((self.take_lines(), self.store.lags), (['READY=1'], False))
         self.store.keep({'first': first})
-        self.assertEqual(self.told(), ['FDSTOREREMOVE=1', 'FDNAME=first'])
+        self.assertEqual(self.take_lines(), ['FDSTOREREMOVE=1', 'FDNAME=first'])
 
     def test_nobody_listens(self) -> None:
         self.line.close()
@@ -126,21 +126,21 @@ class LockTests(FolderCase):
     def test_one_has_it(self) -> None:
         """The other is told who; one that has ended has let it go, and its file is removed."""
         path = self.path('lock')
-        file = lock.hold(path)
+        file = lock.take_lock(path)
         with self.assertRaisesRegex(lock.InUse, f'{os.getpid()}'):
-            lock.hold(path)
-        lock.let_go(file, path)
+            lock.take_lock(path)
+        lock.release_lock(file, path)
         self.assertEqual(os.listdir(self.folder), [])
-        os.close(lock.hold(path))
-        os.close(lock.hold(path))
+        os.close(lock.take_lock(path))
+        os.close(lock.take_lock(path))
 
     def test_without_room(self) -> None:
         """Who cannot say his number has it all the same."""
         path = self.path('lock')
         with mock.patch('os.pwrite', side_effect=OSError(28, 'x')):
-            file = lock.hold(path)
+            file = lock.take_lock(path)
         with self.assertRaises(lock.InUse):
-            lock.hold(path)
+            lock.take_lock(path)
         os.close(file)
 
     def test_removed_meanwhile(self) -> None:
@@ -154,11 +154,11 @@ class LockTests(FolderCase):
                 removed.append(path)
                 os.unlink(path)
         with mock.patch('fcntl.flock', removes):
-            file = lock.hold(path)
+            file = lock.take_lock(path)
         self.assertTrue(lock.is_at(file, path))
         os.unlink(path)
-        other = lock.hold(path)
-        lock.let_go(file, path)             # (it is another one's)
+        other = lock.take_lock(path)
+        lock.release_lock(file, path)             # (it is another one's)
         self.assertTrue(lock.is_at(other, path))
         os.close(other)
 
@@ -169,10 +169,10 @@ class HeldLogTests(FolderCase):
         self.log = self.path('log')
         self.made()
 
-    def made(self) -> None:
+    def made(self, what: str = 'of') -> None:
         os.mkdir(self.log)
         for name in log.FILES:
-            self.write(f'log/{name}', f'of {name}')
+            self.write(f'log/{name}', f'{what} {name}')
 
     def test_put_back(self) -> None:
         """Whatever is gone of it: the folder, a file, or one that another is in place of."""
@@ -204,6 +204,22 @@ class HeldLogTests(FolderCase):
             held.put_back(self.log)
         self.assertEqual(os.listdir(self.folder), [])
         self.assertTrue(held.put_back(self.log))
+        held.close()
+
+    def test_all_of_one_folder(self) -> None:
+        """Another one takes its place meanwhile."""
+        held, opens = log.HeldLog({}), os.open
+
+        def open_then_exchange(path: str, flags: int, *, dir_fd: int | None = None) -> int:
+            file = opens(path, flags, dir_fd=dir_fd)
+            if path.endswith(log.FILES[0]):
+                os.rename(self.log, f'{self.log}.before')
+                self.made('another')
+            return file
+        with mock.patch('os.open', open_then_exchange):
+            held.hold(self.log)
+        self.assertEqual([os.pread(file, 100, 0).decode() for file in held.files.values()],
+                         [f'of {name}' for name in log.FILES])
         held.close()
 
     def test_all_or_none(self) -> None:
@@ -316,7 +332,7 @@ class HeldCardTests(unittest.TestCase):
         with mock.patch('e1gw.holder.line.card_of', lambda file, loop: Card(self.channel, loop)):
             while not line.files:
                 self.loop.wait(1.0)
-                line.look(time.monotonic())
+                line.try_to_open(time.monotonic())
         self.addCleanup(line.close)
         return line
 
@@ -351,7 +367,7 @@ class HeldLineTests(FolderCase):
         return HeldLine(LineWants('x', opens, (), True, False, '', ''), {}, Loop())
 
     def looks(self, line: HeldLine) -> None:
-        support.until(lambda: line.look(time.monotonic()))
+        support.until(lambda: line.try_to_open(time.monotonic()))
 
     def test_opened_again(self) -> None:
         """A failure is said once; it is tried until it is open, and the next holder has its descriptors."""
@@ -363,7 +379,7 @@ class HeldLineTests(FolderCase):
         self.assertEqual(len(said.mock_calls), 1)
         self.assertIn(f'{path}: No such file', line.fault)
         os.mkfifo(path)
-        support.until(lambda: line.look(time.monotonic()) and line.files)
+        support.until(lambda: line.try_to_open(time.monotonic()) and line.files)
         self.assertEqual((line.fault, len({*line.program_files})), ('', 2))
         again = HeldLine(line.options, {**line.files, 'line-in': 99}, Loop())
         self.assertEqual(again.program_files, line.program_files)
@@ -517,7 +533,7 @@ class TurnTests(unittest.TestCase):
             functools.partial(getattr(Holder, name), holder)
             for name in ('_look_at', '_go_on', '_bring_up', '_on_opening_end'))
         holder.line.files = {}
-        holder.line.look.side_effect = lambda now: holder.line.files.update(line=1) or True
+        holder.line.try_to_open.side_effect = lambda now: holder.line.files.update(line=1) or True
         ended = mock.Mock(side_effect=lambda held, *_: setattr(held, 'program', None))
         with mock.patch.multiple('e1gw.holder.holder', on_program_exit=ended, start_program=mock.DEFAULT) as its:
             Holder.turn(holder, 5.0)
@@ -539,7 +555,7 @@ class HolderAnswerTests(unittest.TestCase):
             holder.requests = [*asked]
             does(holder)
             self.assertEqual([each.word for each in holder.requests], waits)
-            self.assertEqual([len(each.refused.mock_calls) for each in asked], [1, 1, int(not waits)])
+            self.assertEqual([len(each.answer_refused.mock_calls) for each in asked], [1, 1, int(not waits)])
             self.assertEqual(holder.store.notify.mock_calls, [mock.call('READY=1')])
 
 

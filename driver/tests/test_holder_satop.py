@@ -43,7 +43,7 @@ class HeldSatopTests(support.FolderCase):
         self.program(script)
         its = SatopLine(LineWants('x', mock.Mock(spec=Stream), ENDS, reopens, crc4, self.path('e1gw'), self.folder), {},
                         self.loop)
-        self.until(lambda: its.files or its.look(time.monotonic()) and its.files, None)
+        self.until(lambda: its.files or its.try_to_open(time.monotonic()) and its.files, None)
         self.addCleanup(its.close)
         return its
 
@@ -104,7 +104,7 @@ class HeldSatopTests(support.FolderCase):
         """It has the same pair and the same process, and sees its end."""
         line = self.line(SCRIPT)
         again = SatopLine(line.options, line.files, self.loop)
-        again.take_up(line.note())
+        again.restore_note(line.note())
         assert line._child
         self.loop.unwatch(line._child._file)
         pid, line._child, line.files = line.pid, None, {}

@@ -160,9 +160,9 @@ class HolderDeathTests(HolderCase):
             shutil.rmtree(path) if os.path.isdir(path) else os.unlink(path)
             self.awaits('is to be had again')
             self.told_from = 0
-            self.told_from = self.told().rindex('is to be had again')
+            self.told_from = self.read_log().rindex('is to be had again')
             self.goes_on_all()
-            support.until(lambda: os.path.exists(self.places.hold))
+            support.until(lambda: os.path.exists(self.places.hold_path))
             self.assertEqual(self.state().program, self.program)
         self.as_uncut()
         self.ends()
@@ -268,7 +268,7 @@ class HolderAskedTests(HolderCase):
         self.write('trunk.toml', text)
         os.kill(self.keeper.pid, signal.SIGHUP)
         self.goes_on_all()
-        told = [each for each in self.manager.told() if each in ('READY=1', 'RELOADING=1')]
+        told = [each for each in self.manager.read_lines() if each in ('READY=1', 'RELOADING=1')]
         self.assertEqual(told, ['READY=1', *['RELOADING=1', 'READY=1'] * 5])
         self.as_uncut()
         self.write('trunk.toml', others)
@@ -335,7 +335,7 @@ class HolderAskedTests(HolderCase):
         self.begins()
         self.assertEqual(self.asks('release'), 'release: done')
         self.assertEqual((self.device.line.recv(10), self.state().role, self.state().program), (b'', 'standby', 0))
-        support.until(lambda: self.manager.told() and not self.manager.files)
+        support.until(lambda: self.manager.read_lines() and not self.manager.files)
         self.assertRegex(self.asks('renew'), 'renew: refused: ')
         self.kill_holder()                      # (it stands by still)
         self.starts_holder()
@@ -352,7 +352,7 @@ class HolderAskedTests(HolderCase):
         """It asks nothing, nor does a long one."""
         self.begins()
         for octets in b'quit', b'quit' * 17 + b'\n', b'q\n':
-            with support.connected(self.places.hold) as line:
+            with support.connected(self.places.hold_path) as line:
                 line.sendall(octets)
                 line.shutdown(socket.SHUT_WR)
                 with contextlib.suppress(ConnectionResetError):
@@ -373,7 +373,7 @@ class NoLineTests(HolderCase):
         for _ in range(2):
             self.assertEqual(self.asks('reload force'), 'reload: done')
             self.assertFalse(self.state().trial)
-        told = [each for each in self.manager.told() if each in ('READY=1', 'RELOADING=1')]
+        told = [each for each in self.manager.read_lines() if each in ('READY=1', 'RELOADING=1')]
         self.assertEqual(told[-4:], ['RELOADING=1', 'READY=1'] * 2)
         self.ends()
 
@@ -381,7 +381,7 @@ class NoLineTests(HolderCase):
         self.options.remove('--reopen')
         self.starts_holder()
         self.assertEqual(self.keeper.wait(SECONDS), 1)
-        self.assertIn('No such file', self.told())
+        self.assertIn('No such file', self.read_log())
 
     def test_configurations(self) -> None:
         """One that is refused ends it with status 2; one that is away is waited for."""
@@ -472,7 +472,7 @@ class HolderStateTests(HolderCase):
         os.mkdir(self.path('state.new'))
         self.keeper.terminate()
         self.assertEqual(self.keeper.wait(SECONDS), 1)
-        self.assertIn('the state is not saved, and the log stays', self.told())
+        self.assertIn('the state is not saved, and the log stays', self.read_log())
         self.manager.forget()
         self.starts_holder()
         self.device.accept()
@@ -486,5 +486,5 @@ class HolderStateTests(HolderCase):
         self.options += '--state', self.path('state')
         self.starts_holder()
         self.assertEqual(self.keeper.wait(SECONDS), 1)
-        self.assertEqual(self.told(), f'e1gw-trunk: ends: the state is not loaded: {self.path("state")}: '
+        self.assertEqual(self.read_log(), f'e1gw-trunk: ends: the state is not loaded: {self.path("state")}: '
                                       'Is a directory\n')

@@ -96,7 +96,7 @@ class FolderReaderTests(LogFolderCase):
             nonlocal place
             self.written, held = self.written + self.hand, self.written       # (it may be there, and not yet counted)
             if self.chance.random() < often:
-                for news in reader.look():
+                for news in reader.read_news():
                     place = self.is_told(news, place)
                     told.append(news)
             self.written = held
@@ -110,7 +110,7 @@ class FolderReaderTests(LogFolderCase):
                 except NoRoom:
                     self.hand = b''
                     self.turns()
-        for news in reader.look():
+        for news in reader.read_news():
             place = self.is_told(news, place)
             told.append(news)
         return place, told
@@ -126,13 +126,13 @@ class FolderReaderTests(LogFolderCase):
         self.assertEqual(place, len(self.written))
         reader = FolderReader(self.files(), place - 1)
         self.assertFalse(reader.is_overtaken())         # (nothing was read yet)
-        reader.look()
+        reader.read_news()
         place = reader.place
         for turn in range(4):
             self.assertEqual(reader.is_overtaken(), turn > 1)
             self.turns()
             self.append()
-        for news in reader.look():
+        for news in reader.read_news():
             place = self.is_told(news, place)
         self.assertEqual(place, len(self.written))
 
@@ -149,10 +149,10 @@ class FolderReaderTests(LogFolderCase):
             return octets
         for _ in range(STEPS // 10):
             with mock.patch('os.pread', reads):
-                found = reader.look()
+                found = reader.read_news()
             for news in found:
                 place = self.is_told(news, place)
-        for news in reader.look():
+        for news in reader.read_news():
             place = self.is_told(news, place)
         self.assertEqual(place, len(self.written))
 
@@ -163,19 +163,19 @@ class FolderReaderTests(LogFolderCase):
         before = len(self.written)
         self.turns()
         self.append()
-        found = FolderReader(self.files(), before - 7).look()
+        found = FolderReader(self.files(), before - 7).read_news()
         self.assertEqual([type(news) for news in found], [LogPiece, LogTurn, LogPiece])
         self.assertEqual([self.is_told(news, before - 7) for news in found[:1]], [before])
-        self.assertEqual([self.is_told(news, before + 1) for news in FolderReader(self.files(), before + 1).look()],
-                         [len(self.written)])
-        self.assertEqual(FolderReader(self.files(), len(self.written)).look(), [])
-        found = FolderReader(self.files(), 0).look()
+        found = FolderReader(self.files(), before + 1).read_news()
+        self.assertEqual([self.is_told(news, before + 1) for news in found], [len(self.written)])
+        self.assertEqual(FolderReader(self.files(), len(self.written)).read_news(), [])
+        found = FolderReader(self.files(), 0).read_news()
         self.assertEqual([type(news) for news in found], [LogPiece, LogTurn, LogPiece])
-        (first, _) = FolderReader(self.files(), len(self.written) + 1).look()
+        (first, _) = FolderReader(self.files(), len(self.written) + 1).read_news()
         assert isinstance(first, LogBegun)
         self.assertTrue(first.is_anew)
         self.turns()
-        found = FolderReader(self.files(), 0).look()
+        found = FolderReader(self.files(), 0).read_news()
         self.assertEqual([type(news) for news in found], [LogBegun, LogPiece, LogTurn])
         assert isinstance(found[0], LogBegun)
         self.assertEqual((found[0].missed, found[0].is_anew, found[0].state.place), (before, False, before))

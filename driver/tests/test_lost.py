@@ -79,7 +79,8 @@ class ReceivedNumberTests(PropertyCase):
         self.assertEqual(found.count_lost, 4 + 1 + 999)
 
     def test_another_call(self) -> None:
-        """Begins anew, and what was lost stays; octets that are no RTP have no number, and a header alone has one."""
+        """The numbers begin anew with a call, and packets that were lost before stay counted. Octets that are no RTP
+        have no number; a header alone has one."""
         found = lost_of(5, 7)
         found.begin()
         take(found, 7, 60)
@@ -102,10 +103,10 @@ class ReceivedNumberTests(PropertyCase):
 
 class CountedToTheEndTests(TrunkWatchCase):
     async def test_what_came_up_to_the_end(self) -> None:
-        """Is read in the log before a call has its line."""
+        """The log is read up to the end of a call before the line of the call is written."""
         found = self.watched()
         found.blocks = mock.Mock()
-        setattr(found.client, 'tell', found.tell)
+        setattr(found.client, 'report_event', found.report_event)
         found._lines.begin(0)
         found._lines.take('\n'.join([*BEGIN, row(3, 'answered', '00 01'), 'now', '']).encode())
         news = [b''.join(datagram_record(3, rtp(number, 0, 7)) for number in (5, 6, 9))]
@@ -318,7 +319,7 @@ class TrunkFigureTests(unittest.TestCase):
         with World(config_of(FOUR), '--session', '@/session', '--http', f'127.0.0.1:{http}') as world:
             aligned(world)
             for _ in range(2):
-                world.give(b'\xff' * 5 * MULTIFRAME)
+                world.exchange_octets(b'\xff' * 5 * MULTIFRAME)
                 aligned(world)
             status, metrics, given = world.status(), got(http, '/metrics'), bytes(world.sent)
             texts = world.ask('status'), '\n'.join(row[0] for row in ShownTables(got(http, '/')).rows['state'])
@@ -364,10 +365,10 @@ class ShownFigureTests(unittest.TestCase):
                                                ('127.0.0.1', self.ports[circuit]))
             self.world.step(10)
 
-    def came(self) -> dict[int, int]:
+    def packets_received(self) -> dict[int, int]:
         """How many packets of each circuit came."""
         return {row['circuit']: sum(row['datagrams'].values()) - row['datagrams']['sent']
-                for row in self.world.told()['circuits'] if row['circuit'] in FAULTS}
+                for row in self.world.recent_status()['circuits'] if row['circuit'] in FAULTS}
 
     def got(self, path: str) -> str:
         return got(self.http, path)
@@ -437,11 +438,12 @@ class ShownFigureTests(unittest.TestCase):
             call(world, circuit)
         self.send_all()
         sent = {n: len([*packets]) for n, (packets, _) in FAULTS.items()}
-        world.until(lambda: self.came() == sent)
+        world.until(lambda: self.packets_received() == sent)
         found, lines = self.shown(), self.shown_lines()
         for circuit in FAULTS:
             world.ask(f'clear {circuit}')
-        world.until(lambda: {row['state'] for row in world.told()['circuits'] if row['circuit'] in FAULTS} == {'idle'})
+        world.until(lambda: {'idle'} == {
+            row['state'] for row in world.recent_status()['circuits'] if row['circuit'] in FAULTS})
         found |= self.ended()
         world.quit()
         found['csv'] = {int(each.circuit): of_line(each) for each in read_calls(world.path('calls'))}

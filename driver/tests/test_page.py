@@ -241,14 +241,14 @@ class EventReaderTests(unittest.IsolatedAsyncioTestCase):
         self.looks, self.closed = 0, list[str]()
         self.enterContext(mock.patch.multiple(http_pages, TOLD=0.0, MOST_READERS=2))
         self.readers = EventReaders(self.fresh)
-        self.server = await asyncio.start_server(self.came, '127.0.0.1', 0)
+        self.server = await asyncio.start_server(self.serve_reader, '127.0.0.1', 0)
         self.addCleanup(self.server.close)
 
     async def fresh(self) -> Any:
         self.looks += 1
         return mock.Mock(parts={'c1': [ShownRow(['1', 'x' * 3000 + str(self.looks)])], 'c2': [ShownRow(['2', 'y'])]})
 
-    async def came(self, reader: asyncio.StreamReader, writer: asyncio.StreamWriter) -> None:
+    async def serve_reader(self, reader: asyncio.StreamReader, writer: asyncio.StreamWriter) -> None:
         name = (await reader.readline()).decode().strip()
         with contextlib.suppress(asyncio.CancelledError):       # (at the end of the test)
             await self.readers.read(reader, writer)
@@ -264,27 +264,28 @@ class EventReaderTests(unittest.IsolatedAsyncioTestCase):
         await reader.readuntil(b'\r\n\r\n')
         return reader
 
-    async def told(self, reader: asyncio.StreamReader) -> dict[str, Any]:
+    async def read_parts(self, reader: asyncio.StreamReader) -> dict[str, Any]:
         text = (await reader.readuntil(b'\n\n')).removeprefix(b'data: ')
         found: dict[str, Any] = json.loads(text)
         return found
 
     async def test_who_does_not_read(self) -> None:
-        """Is closed, with little held for him; the other one gets each change once, and nothing else."""
+        """His connection is closed, and little is held for him. The other reader gets each change once, and nothing
+        else."""
         await self.connect('slow')
         quick = await self.connect('quick')
-        self.assertEqual([*await self.told(quick)], ['c1', 'c2'])
+        self.assertEqual([*await self.read_parts(quick)], ['c1', 'c2'])
         while not self.closed and 3000 * self.looks < 20 * http_pages.MOST_HELD:
-            self.assertEqual([*await self.told(quick)], ['c1'])
+            self.assertEqual([*await self.read_parts(quick)], ['c1'])
         self.assertEqual(self.closed, ['slow'])
-        self.assertEqual([*await self.told(quick)], ['c1'])
+        self.assertEqual([*await self.read_parts(quick)], ['c1'])
 
     async def test_one_too_many(self) -> None:
         """The oldest goes, though nobody was told anything behind the whole page, as whoever comes is."""
         with mock.patch.object(http_pages, 'TOLD', LONG):
             for name in ('first', 'second', 'third'):
                 reader = await self.connect(name)
-            self.assertEqual([*await self.told(reader)], ['c1', 'c2'])
+            self.assertEqual([*await self.read_parts(reader)], ['c1', 'c2'])
             await support.eventually(lambda: self.closed)
         self.assertEqual(self.closed, ['first'])
 

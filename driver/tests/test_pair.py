@@ -59,7 +59,7 @@ class PairTests(support.LoopCase):
         for number, words in (None, 'take'), (0, 'take 0'):
             self.state.role, self.state.program, self.asked[:], self.runs[:] = STANDBY, 0, [], []
             self.fed(number).unlock.side_effect = lambda: self.runs.append(f'unlocks before {self.asked}')
-            self.its.look()
+            self.its.follow_role()
             await asyncio.sleep(0)
             self.standby.fill.side_effect = lambda: self.runs.append('fills')
             self.assertEqual(await self.its.change('promote'), DONE)
@@ -84,7 +84,7 @@ class PairTests(support.LoopCase):
         """What it has done is told: the addresses of the trunk come while its program starts."""
         self.holds.clear()
         promotes = asyncio.create_task(self.its.change('promote'))
-        await self.until(lambda: self.asked and self.trunk.look.call_count)
+        await self.until(lambda: self.asked and self.trunk.follow_holder.call_count)
         self.assertFalse(promotes.done())
         self.holds.set()
         self.assertEqual(await promotes, DONE)
@@ -92,10 +92,10 @@ class PairTests(support.LoopCase):
     async def test_somebody_else_takes_it(self) -> None:
         """It is fed no more, and its log is read from where it was fed to."""
         self.fed()
-        self.its.look()
+        self.its.follow_role()
         await asyncio.sleep(0)
         self.state.role, self.state.program = ACTIVE, os.getpid()
-        self.its.look()
+        self.its.follow_role()
         await asyncio.sleep(0)
         self.assertEqual((self.runs, self.asked), (['begins', 'ends'], []))
         self.trunk.reader.switch_log.assert_called_once_with((3, 9))
@@ -105,7 +105,7 @@ class PairTests(support.LoopCase):
     async def test_while_its_program_ends(self) -> None:
         """Somebody has had the holder release it: it is active until then, and knows what it had once that is whole."""
         self.state.role, self.state.program = STANDBY, os.getpid()
-        self.its.look()
+        self.its.follow_role()
         await asyncio.sleep(0)
         self.assertEqual((self.runs, self.its.facts().role), ([], 'active'))
         self.assertEqual(await self.its.change('promote'), DONE)
@@ -117,7 +117,7 @@ class PairTests(support.LoopCase):
         for is_carried, answer in (True, DONE), (False, refused(NOT_TAKEN)):
             self.state.role, self.state.program, self.asked[:] = ACTIVE, os.getpid(), []
             self.feed.is_carried = False
-            self.its.look()
+            self.its.follow_role()
             said = list[bool]()
 
             async def finish(seconds: float) -> None:

@@ -119,12 +119,12 @@ class WordOrderTests(unittest.TestCase):
         self.assertEqual(reordered(bytes.fromhex('053977'), 3).hex(), '88c6fa')     # 000 001 010 .. 111
         self.assertEqual(reordered(bytes.fromhex('00443214c7'), 5).hex(), '2088418a39')
 
-    def told(self, payloads: list[bytes], codec: str, path: str | None) -> HeardSamples:
+    def heard_in(self, payloads: list[bytes], codec: str, path: str | None) -> HeardSamples:
         whole = HeardSamples()
         orders = Orders(path, 'A', lambda circuit, place, seen: whole.join(seen))
         for at in range(0, len(payloads), 10):
             orders.put(3, at, codec, payloads[at:at + 10])
-        orders.look()
+        orders.decode_queued()
         return whole
 
     def test_each_rate(self) -> None:
@@ -132,7 +132,7 @@ class WordOrderTests(unittest.TestCase):
         for codec, bits in BITS.items():
             payloads = g726(codec, coded('A'))
             for other, sent in ((False, payloads), (True, [of_aal2(each, bits) for each in payloads])):
-                whole = self.told(sent, codec, path)
+                whole = self.heard_in(sent, codec, path)
                 self.assertEqual(whole.is_other(), other, (codec, whole))
                 self.assertGreater(whole.other if other else whole.own, 10, (codec, whole))
 
@@ -140,13 +140,13 @@ class WordOrderTests(unittest.TestCase):
         path = program()
         for codec in BITS:
             for octets in (b'\xd5' * 16_000, TONES['A'] * 2000, random.Random(7).randbytes(16_000)):
-                whole = self.told(g726(codec, octets), codec, path)
+                whole = self.heard_in(g726(codec, octets), codec, path)
                 self.assertFalse(whole.is_other(), (codec, whole))
 
     def test_without_a_program(self) -> None:
         payloads = [bytes(80)] * 10
         for path in (None, '/nowhere', '/bin/false', '/bin/echo'):
-            self.assertEqual(self.told(payloads, 'g726-32', path), HeardSamples())
+            self.assertEqual(self.heard_in(payloads, 'g726-32', path), HeardSamples())
 
 
 class ListeningTimesTests(unittest.TestCase):

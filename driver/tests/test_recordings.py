@@ -151,7 +151,7 @@ class LogReaderTests(support.LoopCase):
                 self.log.multiframe()
             if looks and self.now >= due:
                 due = self.now + TICK
-                self.reader.look()
+                self.reader.read_at_tick()
 
     def written(self, at: float) -> None:
         """The log was written last at this time."""
@@ -173,11 +173,11 @@ class LogReaderTests(support.LoopCase):
         them. So does one of another service. If a clock was set meanwhile, no more than the log had."""
         self.log.multiframe()
         self.written(at := 1e9)
-        self.reader.look()
+        self.reader.read_at_tick()
         for is_another in (False, True):
             if is_another:
                 note, self.reader = self.reader.noted(), self.reads()
-                self.reader.take_up(note, None)
+                self.reader.restore_note(note, None)
             self.written(at := at + self.goes_on() / OCTETS_A_SECOND)
             with self.assertLogs('e1gw.watcher.reader', 'WARNING'):
                 await self.reader.keep_older_pair()
@@ -241,7 +241,7 @@ class LogReaderTests(support.LoopCase):
     async def test_overtaken(self) -> None:
         """Who missed a part counts on from where the program says that the trunk is, and no octet twice."""
         self.log.multiframe()
-        self.reader.look()
+        self.reader.read_at_tick()
         for _ in range(3):
             self.log.multiframe()
             self.log.turns()
@@ -249,23 +249,23 @@ class LogReaderTests(support.LoopCase):
         told = 5 * MULTIFRAME
         self.reader.told = lambda: told
         with self.assertLogs('e1gw.watcher.reader', 'WARNING'):
-            self.reader.look()
+            self.reader.read_at_tick()
         self.assertEqual(self.reader.octets, told)
         self.log.multiframe()
-        self.reader.look()
+        self.reader.read_at_tick()
         self.assertEqual(self.reader.octets, told + MULTIFRAME)
 
     async def test_where_a_program_says_that_it_is(self) -> None:
         """Who has missed a part counts on from there. One that does not say it has told something else, or has gone."""
-        self.reader.look()
+        self.reader.read_at_tick()
         self.reader.octets, self.reader.has_missed = 1000, True
         tells = iter([b'e1gw tell 1 A\nat 2048\nalarms', b'e1gw tell 1 A\nat 2560\n', *3 * [b'e1gw tell 1 A\nat 512\n'],
                       b'x' * 300, b'e1gw tell 1 A\n'])
 
-        def came(_: asyncio.StreamReader, writer: asyncio.StreamWriter) -> None:
+        def serve_place(_: asyncio.StreamReader, writer: asyncio.StreamWriter) -> None:
             writer.write(next(tells))
             writer.close()
-        await asyncio.start_unix_server(came, self.path('tell'))
+        await asyncio.start_unix_server(serve_place, self.path('tell'))
         its = PlainTrunk(self.reader, self.folder, '', 500)
         await its.know_place()
         await its.know_place()              # (nothing is missed any more)
@@ -278,7 +278,7 @@ class LogReaderTests(support.LoopCase):
     async def test_slips_are_noted(self) -> None:
         """Beside the file of a ring, at the place where octets were lost; and what a program had in hand."""
         self.reader = self.reads(RecordingWants(self.path('ring'), 60, 'west', '/etc/west.toml', 200))
-        self.reader.take_up(ReadingNote(), None)
+        self.reader.restore_note(ReadingNote(), None)
         self.reader.on_next_program(True)
         self.go(2)
         place = self.log.octets

@@ -91,7 +91,7 @@ class RawOctetTests(unittest.TestCase):
 class RawSessionTests(unittest.TestCase):
     """Octets of a trunk where a session is wanted: the command that is named makes a session of them."""
 
-    def told(self, octets: bytes) -> str:
+    def words_of(self, octets: bytes) -> str:
         with tempfile.TemporaryDirectory() as folder:
             path = os.path.join(folder, 'trunk.raw')
             with open(path, 'wb') as file:
@@ -106,8 +106,8 @@ class RawSessionTests(unittest.TestCase):
         later = (int.from_bytes(octets, 'big') >> 3).to_bytes(len(octets), 'big')
         for given, command in ((octets, 'e1gw-records --from-raw FILE'),
                                (turned, 'e1gw-records --from-raw --reverse FILE'), (later, 'e1gw align < FILE | e1gw')):
-            self.assertIn(f'no session: {command}', self.told(given))
-        self.assertNotIn('no session', self.told(bytes(4096)))
+            self.assertIn(f'no session: {command}', self.words_of(given))
+        self.assertNotIn('no session', self.words_of(bytes(4096)))
         session = ran('--from-raw', '--reverse', given=turned).stdout
         self.assertEqual(session, ran('--from-raw', given=octets).stdout)
 

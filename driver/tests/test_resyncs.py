@@ -25,7 +25,7 @@ class ResyncRuleTests(unittest.TestCase):
         for self.now in moments:
             for n in circuits:
                 self.rule.count_answers(n, code, round(self.now * SECOND), 1)
-            self.rule.look(self.now, round(self.now * SECOND), [1, 2], True)
+            self.rule.restart_due(self.now, round(self.now * SECOND), [1, 2], True)
 
     def test_limits(self) -> None:
         """Of half a second what came in it, without its first moment; half of it, three at least, over a quarter; and
@@ -148,7 +148,7 @@ class ResyncPropertyTests(PropertyCase):
                     call = RememberedCall() if what == 'close' else call
                     counts = what != 'wait' or bool(how)
                     why = call.due(now, counts)
-                    rule.look(now, place + ahead, [] if what == 'close' else [1], counts)
+                    rule.restart_due(now, place + ahead, [] if what == 'close' else [1], counts)
                     assert restarted == [1] * bool(why), (restarted, why)
                     if why:
                         call.restarted(why, now, place + ahead)

@@ -11,6 +11,7 @@ from unittest import mock
 
 from .support import FolderCase
 from e1gw import trial
+from e1gw.holder.job_types import JobRequest
 from e1gw.holder import holder as held, lifecycle, main
 from e1gw.log_folder import LogPair
 from e1gw.watcher import http_pages
@@ -41,7 +42,7 @@ class FolderOwnTests(FolderCase):
             self.write(os.path.basename(words[-1]), 'x')
             return 0, '', ''
         calls = mock.Mock()
-        asked = trial.Asked(what='save', seconds=1.0, state=self.path('state'))
+        asked = JobRequest('save', seconds=1.0, state=self.path('state'))
         with mock.patch.multiple(trial, run=run, last_of=mock.Mock(return_value=LogPair(1, 0, b'', b''))), \
                 mock.patch.multiple(os, fsync=calls.fsync, replace=calls.replace):
             trial.save_state(asked)
@@ -87,7 +88,7 @@ class HostTests(unittest.IsolatedAsyncioTestCase):
         """systemd kills who gives none."""
         its = mock.Mock(watcher=None, program=None, versions=mock.Mock(trial=None))
         held.Holder._tick(its, 1.0)
-        its.store.tell.assert_called_once_with('WATCHDOG=1')
+        its.store.send_message.assert_called_once_with('WATCHDOG=1')
 
     async def test_who_draws_is_behind_the_calls(self) -> None:
         behind, process = mock.Mock(), mock.Mock(pid=7)

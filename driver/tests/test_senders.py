@@ -58,10 +58,10 @@ class StrangerScene:
         return {*exchange.heard[1]} & {PEER, STRANGER}
 
     def goes_on(self, multiframes: int) -> None:
-        self.world.give(b''.join(self.world.exchange.multiframe() for _ in range(multiframes)))
+        self.world.exchange_octets(b''.join(self.world.exchange.multiframe() for _ in range(multiframes)))
 
     def renewed(self) -> int:
-        return int(self.world.told()['renewed'])
+        return int(self.world.recent_status()['renewed'])
 
     def is_late(self, *speakers: Speaker) -> None:
         """Packets do not come for a while, and then they are late."""
@@ -92,4 +92,4 @@ class StrangerTests(unittest.TestCase):
                         happens(stranger, peer)
                         self.assertEqual(scene.heard(stranger, peer), {then})
                         self.assertEqual(scene.heard(peer), {PEER} if then == PEER else set())
-            self.assertEqual(scene.world.told()['senders'], word)
+            self.assertEqual(scene.world.recent_status()['senders'], word)

@@ -83,10 +83,10 @@ class KeptSession:
 
     def begin(self, lost: bool) -> None:
         """Another program. (The end of the one before it has the log read.)"""
-        self.reader.look()
+        self.reader.read_at_tick()
         self.reader.on_next_program(lost)
         self.log.turns()
-        self.reader.look()
+        self.reader.read_at_tick()
 
     def go(self, seconds: float, comes: bool = True) -> None:
         """Time goes by, with octets or without."""
@@ -97,7 +97,7 @@ class KeptSession:
                 self.log.multiframe()
             if self.now >= due:
                 due = self.now + TICK
-                self.reader.look()
+                self.reader.read_at_tick()
 
     async def do(self, step: Stretch) -> None:
         self.go(step.flows)
@@ -105,7 +105,7 @@ class KeptSession:
         if step.cuts:
             self.log.turns()
         if step.service:
-            self.reader.look()
+            self.reader.read_at_tick()
             await self.follow()
         begun = self.now
         self.go(step.away - step.early, comes=False)
@@ -119,10 +119,10 @@ class KeptSession:
         assert self.reader._recording
         await asyncio.to_thread(self.reader._recording.close)
         before, self.reader = self.reader, self.service()
-        self.reader.take_up(before.noted(), before.recording_note())
+        self.reader.restore_note(before.noted(), before.recording_note())
 
     async def end(self) -> None:
-        self.reader.look()
+        self.reader.read_at_tick()
         await self.reader.finish()
         self.log.close()
 
@@ -137,7 +137,7 @@ class SessionClockTests(support.LoopCase):
         its = KeptSession(self.path(name), self.config)
         clock = types.SimpleNamespace(monotonic=lambda: its.now, time=lambda: its.now + DAY)
         with mock.patch.object(reader, 'time', clock), mock.patch.object(recordings, 'time', clock):
-            its.reader.take_up(reader.ReadingNote(), None)
+            its.reader.restore_note(reader.ReadingNote(), None)
             for step in steps:
                 await its.do(step)
             await its.end()

@@ -222,7 +222,8 @@ class ReportReadingTests(support.LoopCase):
         events, config = list[Event](), self.write('trunk.toml', 'law = "A"\n[[circuit]]\nnumber = 1\n')
         tell = self.path('tell')
         trunk = mock.Mock(**{
-            'places.return_value.tell': tell, 'config_path.return_value': config, 'facts.return_value': TrunkFacts(),
+            'places.return_value.tell_path': tell, 'config_path.return_value': config,
+            'facts.return_value': TrunkFacts(),
             'session.return_value': '', 'start_octet.return_value': 0,
             'missed_reports': mock.AsyncMock(return_value=None), 'know_place': mock.AsyncMock()})
         with support.listening(tell) as listener, mock.patch.object(tell_client, 'REST', 0.001):

@@ -131,7 +131,8 @@ class TieFailureTests(unittest.IsolatedAsyncioTestCase):
             with mock.patch('sys.stderr', new_callable=io.StringIO) as said:
                 self.assertEqual(await work(tie, mock.Mock(run=asyncio.Event().wait), None, None), status)
             self.assertEqual(said.getvalue(), 'e1gw-tie: odd\n' if fault else '')
-            self.assertEqual((tie.restore_codecs.await_count, tie.tell.mock_calls), (1, [mock.call(Ended(status))]))
+            self.assertEqual((tie.restore_codecs.await_count, tie.put_report.mock_calls),
+                             (1, [mock.call(Ended(status))]))
 
 
 class TieOptionTests(unittest.TestCase):
@@ -168,7 +169,7 @@ class TieOptionTests(unittest.TestCase):
         with mock.patch('e1gw_tie.main.Notifier') as systemd, mock.patch('asyncio.sleep', rests), \
                 self.assertRaises(EOFError):
             asyncio.run(sign_of_life())
-        self.assertEqual([each.args[0] for each in systemd().tell.call_args_list], ['READY=1', *['WATCHDOG=1'] * 2])
+        self.assertEqual([each.args[0] for each in systemd().notify.call_args_list], ['READY=1', *['WATCHDOG=1'] * 2])
 
     def test_loopback(self) -> None:
         for host, here in (('127.0.0.1', True), ('127.5.5.5', True), ('[::1]', True), ('localhost', True),
@@ -208,7 +209,7 @@ class TieTrunkTests(ClockedCase):
         self.begin(self.tie.run())
         await self.until(lambda: self.tie.link is LinkState.GOOD)
 
-    def told(self, event: str) -> list[dict[str, Any]]:
+    def events_of(self, event: str) -> list[dict[str, Any]]:
         return [each for each in self.events if each['event'] == event]
 
     async def test_event_behind_a_status(self) -> None:
@@ -220,7 +221,7 @@ class TieTrunkTests(ClockedCase):
         self.assertEqual([each.state for each in sent if each], [State.ACKED])
         self.assertEqual(self.tie.circuits[3].call, 'a.1')
         self.assertIn('on-loss block 3 alive 2', self.trunk.asked)
-        self.assertEqual(self.told('link'), [{'event': 'link', 'state': 'good', 'site': True, 'dark': False,
+        self.assertEqual(self.events_of('link'), [{'event': 'link', 'state': 'good', 'site': True, 'dark': False,
                                               'far_dark': False}])
 
     async def test_trunk_that_knows_nothing_yet(self) -> None:
@@ -231,7 +232,8 @@ class TieTrunkTests(ClockedCase):
         self.trunk.knows, count = False, len(self.trunk.asked)
         await self.trunk.start()
         await self.until(lambda: self.trunk.asked[count:].count('status json') > 2)
-        self.assertEqual((len(self.told('trunk')), len(self.told('trunk gone')), self.tie.out_of_service), (1, 1, True))
+        self.assertEqual((len(self.events_of('trunk')), len(self.events_of('trunk gone')), self.tie.out_of_service),
+                         (1, 1, True))
         self.trunk.knows = True
         await self.until(lambda: self.tie.trunk.is_up)
         self.assertEqual((self.tie.circuits[3].state, self.tie.circuits[3].call), (State.ACKED, 'a.1'))
@@ -239,10 +241,10 @@ class TieTrunkTests(ClockedCase):
     async def test_trunk_does_not_answer(self) -> None:
         """It is given up after PATIENCE, and found again."""
         self.trunk.silent = True
-        await self.until(lambda: self.told('trunk gone'))
-        self.assertRegex(self.told('trunk gone')[0]['why'], '/ctl: the trunk does not answer$')
+        await self.until(lambda: self.events_of('trunk gone'))
+        self.assertRegex(self.events_of('trunk gone')[0]['why'], '/ctl: the trunk does not answer$')
         self.trunk.silent = False
-        await self.until(lambda: len(self.told('trunk')) == 2)
+        await self.until(lambda: len(self.events_of('trunk')) == 2)
 
     async def test_trunk_that_clears_no_calls(self) -> None:
         """It is told, and the tie goes on."""
@@ -250,8 +252,8 @@ class TieTrunkTests(ClockedCase):
         setattr(self.trunk, 'obey', lambda words: 'on-loss: no' if words[0] == 'on-loss' else obeys(words))
         await self.trunk.stop()
         await self.trunk.start()
-        await self.until(lambda: len(self.told('trunk')) == 2)
-        self.assertEqual([(each['about'], each.get('answer')) for each in self.told('warning')],
+        await self.until(lambda: len(self.events_of('trunk')) == 2)
+        self.assertEqual([(each['about'], each.get('answer')) for each in self.events_of('warning')],
                          [('the trunk clears no calls if this program dies', 'on-loss: no')])
 
 

@@ -57,13 +57,13 @@ class CodecChangesTests(unittest.TestCase):
         self.asked.append(command)
         return self.answers.pop(0)
 
-    def tell(self, report: Report) -> None:
+    def put_report(self, report: Report) -> None:
         self.events.append(report)
 
     def changes(self, asked: str | None = 'pcma', law: str = 'A', far: str | None = 'pcma', hears: bool = True,
                 **codings: Coding) -> CodecChanges:
         trunk: Any = self
-        made = CodecChanges(asked, trunk, self.tell, self.looked.append)
+        made = CodecChanges(asked, trunk, self.put_report, self.looked.append)
         made.begin(followed(law, *(TrunkCircuit(line=LineStatus(
             int(n[1:]), configured_codec=its.codec, configured_payload=its.payload, codec='pcmu'))
             for n, its in codings.items())))
@@ -88,53 +88,53 @@ class CodecChangesTests(unittest.TestCase):
     def test_changes(self) -> None:
         """Each is told, and the circuit is looked at again; a refused one is asked again once another was needed."""
         made = self.changes(c1=G726, c2=G726)
-        made.give(1, State.IDLE)
-        made.give(1, State.ACKED)
-        made.give(3, State.IDLE)
+        made.give_codec(1, State.IDLE)
+        made.give_codec(1, State.ACKED)
+        made.give_codec(3, State.IDLE)
         self.answers[:2] = [refused('not now'), DONE]
-        made.give(1, State.ANSWERED)
-        made.give(1, State.CLEAREDBACK)
-        made.give(1, State.IDLE)
+        made.give_codec(1, State.ANSWERED)
+        made.give_codec(1, State.CLEAREDBACK)
+        made.give_codec(1, State.IDLE)
         self.assertEqual(self.asked, ['codec 1 pcma 8 auto', 'codec 1 g726-16 96 auto'])
         made.on_codec(1, Coding('pcmu', 0))
         made.on_codec(9, Coding('pcmu', 0))
-        made.give(1, State.IDLE)
-        made.give(1, State.ANSWERED)
+        made.give_codec(1, State.IDLE)
+        made.give_codec(1, State.ANSWERED)
         self.assertEqual(self.asked[2:], ['codec 1 pcma 8 auto', 'codec 1 g726-16 96 auto'])
         self.assertEqual(self.events, [CodecGiven(1, 'pcma', 8, 'done'), CodecGiven(1, 'g726-16', 96, 'not now'),
                                        CodecGiven(1, 'pcma', 8, 'done'), CodecGiven(1, 'g726-16', 96, 'done')])
         self.assertEqual(self.looked, [1] * 4)
         made.on_codec(1, PCMA)
-        made.give(1, State.IDLE)
+        made.give_codec(1, State.IDLE)
         self.assertEqual(len(self.asked), 4)
 
     def test_without_a_trunk_or_a_site(self) -> None:
         """Nothing is asked; without an answer it is as if it had not been."""
         made = self.changes(c1=G726)
         self.is_up = False
-        made.give(1, State.IDLE)
+        made.give_codec(1, State.IDLE)
         self.is_up, self.answers[:1] = True, [None]
-        made.give(1, State.IDLE)
+        made.give_codec(1, State.IDLE)
         self.assertEqual((self.asked, self.events, self.looked), (['codec 1 pcma 8 auto'], [], []))
-        made.give(1, State.IDLE)
+        made.give_codec(1, State.IDLE)
         self.assertEqual(self.looked, [1])
         made.begin(followed('mu'))       # (another trunk)
         self.assertIsNone(made.own)
-        self.changes(hears=False, c1=Coding('pcmu', 97)).give(1, State.IDLE)
+        self.changes(hears=False, c1=Coding('pcmu', 97)).give_codec(1, State.IDLE)
         self.assertEqual(len(self.asked), 2)
 
     def test_one_at_a_time(self) -> None:
         made = self.changes(c1=G726)
         tasks = list[Coroutine[Any, Any, None]]()
         setattr(self, 'begin', tasks.append)
-        made.give(1, State.IDLE)
-        made.give(1, State.ANSWERED)
+        made.give_codec(1, State.IDLE)
+        made.give_codec(1, State.ANSWERED)
         made.on_codec(1, PCMA)       # (it is of before the answer)
         self.assertEqual(len(tasks), 1)
         self.answers[:1] = [refused('not now')]
         with self.assertRaises(StopIteration):
             tasks[0].send(None)
-        made.give(1, State.ANSWERED)
+        made.give_codec(1, State.ANSWERED)
         self.assertEqual(len(tasks), 2)
         tasks[1].close()
 
@@ -142,7 +142,7 @@ class CodecChangesTests(unittest.TestCase):
         made = self.changes(c1=G726, c2=G726, c3=Coding('pcmu', 0), c4=G726)
         asyncio.run(made.restore([1, 3, 4, 5]))
         self.assertEqual(self.asked, ['codec 1 g726-16 96 auto', 'codec 4 g726-16 96 auto'])
-        made.give(2, State.IDLE)
+        made.give_codec(2, State.IDLE)
         self.assertEqual((len(self.asked), self.looked), (2, [1, 4]))
         self.is_up = False
         asyncio.run(self.changes(c1=G726).restore([1]))

@@ -59,7 +59,7 @@ class SiteEnd:
         tie: Any = self
         self.site = Site(('127.0.0.1', port), listens, context, peer, tie)
 
-    def tell(self, report: Report) -> None:
+    def put_report(self, report: Report) -> None:
         self.others.append(str(getattr(report, 'why')))
 
     def on_connect(self, greeting: Greeting) -> None:

@@ -92,7 +92,7 @@ class JoinedTrunk(StandInDriver):
         await asyncio.sleep(0)          # (events that were told before come before it)
         return answer
 
-    def tell(self, **event: Any) -> None:
+    def send_event(self, **event: Any) -> None:
         if self.tie.trunk.is_up:
             asyncio.get_running_loop().call_soon(self.tie.on_event, told_by(json.dumps(event)))
 
@@ -213,7 +213,7 @@ class TogetherTests(PropertyCase):
                 trunk.operator(n, how)
             elif what == 'alarm':
                 trunk.alarm = how
-                trunk.tell(event='alarm', what='frame', on=how)
+                trunk.send_event(event='alarm', what='frame', on=how)
             elif what == 'wait':
                 await self.rests(how)
             elif what == 'joins':

@@ -131,7 +131,7 @@ class OperatorTests(unittest.TestCase):
         their own. Nobody seizes while the other end has no alignment, or the trunk no octets."""
         world = self.world(within={'watcher.flow.QUIET': 0.5})
         events = self.events(world)
-        support.until(lambda: bool(world.told()['clock']['stalled']))
+        support.until(lambda: bool(world.recent_status()['clock']['stalled']))
         self.assertEqual(world.ask('seize 1'), 'seize 1: refused: the trunk is stalled')
         self.assertIn(' UTC, stalled; the other end: not heard', world.ask('status'))
         for _ in turns('circuit 1 is seized'):          # (the trunk stalls again on a loaded machine)
@@ -139,8 +139,8 @@ class OperatorTests(unittest.TestCase):
                 break
             self.assertEqual(said, 'seize 1: refused: the trunk is stalled')
             world.step()
-        self.assertEqual(world.known()['circuits'][0]['state'], 'seized')
-        (call,) = world.told()['calls']
+        self.assertEqual(world.status_at_once()['circuits'][0]['state'], 'seized')
+        (call,) = world.recent_status()['calls']
         self.assertRegex(call['call'], '^[0-9a-f]{8}-1-1$')
         self.next(events, event='flows')
         self.next(events, event='state', circuit=1, call=call['call'])
@@ -154,11 +154,11 @@ class OperatorTests(unittest.TestCase):
             line.close()
         octets = bytearray(world.exchange.multiframe())
         octets[32::64] = b'\xff' * 8                    # bit A (ITU-T G.704, 2.3)
-        world.give(bytes(octets))
+        world.exchange_octets(bytes(octets))
         for _ in turns('the trunk flows'):
             if (said := world.ask('seize 2')) != 'seize 2: refused: the trunk is stalled':
                 break
-            world.give(bytes(octets))
+            world.exchange_octets(bytes(octets))
         self.assertEqual(said, 'seize 2: refused: the other end has no alignment')
 
     def test_calls_that_are_cleared(self) -> None:
@@ -181,7 +181,7 @@ class OperatorTests(unittest.TestCase):
         world.until(lambda: world.state(1) == 'idle')
         call(world, 1)
         for _ in range(20):
-            world.give(b'\xff' * MULTIFRAME)
+            world.exchange_octets(b'\xff' * MULTIFRAME)
         self.assertEqual(self.next(events, event='cleared')['circuits'], [1])
 
     def test_many_clients(self) -> None:
@@ -272,8 +272,8 @@ class FilteredWorld(World):
         self.is_late, self.last = '--align' in options, 0xFF
         super().__init__(config_of(FOUR), '--crc4', *options, **more)
 
-    def give(self, octets: bytes) -> bytes:
-        return super().give(self.on_the_line(octets))
+    def exchange_octets(self, octets: bytes) -> bytes:
+        return super().exchange_octets(self.on_the_line(octets))
 
     def on_the_line(self, octets: bytes) -> bytes:
         """As they come."""

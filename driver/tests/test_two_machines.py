@@ -111,7 +111,7 @@ class Machine:
         """The log that it is fed."""
         return self.log(self.places.fed)
 
-    def told(self) -> str:
+    def read_log(self) -> str:
         return support.text_of(self._told)
 
     def awaits(self, pattern: str) -> re.Match[str]:
@@ -174,7 +174,7 @@ class PairCase(KeeperCase):
     def promoted(self, machine: Machine) -> None:
         """It carries the trunk from now on."""
         self.control = machine.places.control
-        self.assertEqual(machine.ask('promote'), 'promote: done', machine.told())
+        self.assertEqual(machine.ask('promote'), 'promote: done', machine.read_log())
         self.device.accept()
 
     def calls_with_standby(self, **given: Machine) -> tuple[Machine, Machine]:
@@ -344,11 +344,11 @@ class TwoMachinesTests(PairCase):
         a, b = self.calls_with_standby()
         b.kill_watcher()
         a.power_off()
-        answer = b.asks('take', b.places.hold)
+        answer = b.asks('take', b.places.hold_path)
         self.device.accept()
         self.control = b.places.control
         self.assertEqual(answer(), 'take: done')
-        self.assertNotIn('begin anew', b.told())
+        self.assertNotIn('begin anew', b.read_log())
         self.goes_on_unaligned()
 
     def test_watchers_killed_on_both_sides(self) -> None:
@@ -392,7 +392,7 @@ class SatopNumberTests(PairCase):
             self.line.sendto(struct.pack('>HH', 0, self.now & 0xffff) + bytes(SIZE), self.near)
             self.now, self.due = self.now + 1, time.monotonic() + SIZE / OCTETS_A_SECOND
 
-    def goes(self, holds: Callable[[], object]) -> None:
+    def exchange_until(self, holds: Callable[[], object]) -> None:
         """Packets come and go until something holds."""
         def held() -> object:
             self.come()
@@ -401,13 +401,13 @@ class SatopNumberTests(PairCase):
 
     def does(self, machine: Machine, word: str, taker: Machine) -> None:
         """Does it, and packets of the one that takes the trunk come."""
-        count = taker.told().count('the trunk is taken: ')
+        count = taker.read_log().count('the trunk is taken: ')
         answer = machine.asks(word)
-        self.goes(lambda: taker.told().count('the trunk is taken: ') > count)
-        self.goes(lambda: select.select([machine.socket], [], [], 0)[0])
+        self.exchange_until(lambda: taker.read_log().count('the trunk is taken: ') > count)
+        self.exchange_until(lambda: select.select([machine.socket], [], [], 0)[0])
         self.assertEqual(answer(), f'{word}: done')
         count = len(self.packets) + MANY
-        self.goes(lambda: len(self.packets) > count)
+        self.exchange_until(lambda: len(self.packets) > count)
 
     def goes_on_at(self, machine: Machine) -> None:
         """The packets of a machine begin with the number that was reckoned."""
@@ -420,10 +420,10 @@ class SatopNumberTests(PairCase):
         """In a move, and when a machine has died, which has other numbers than this one by itself."""
         a, b = (self.machine(*each) for each in {'a': self.config, 'b': self.other_config}.items())
         self.does(a, 'promote', a)
-        self.goes(lambda: b.ask('role') == 'standby, fed' and a.ask('role') == 'active, fed')
+        self.exchange_until(lambda: b.ask('role') == 'standby, fed' and a.ask('role') == 'active, fed')
         self.does(a, 'move', b)
         self.goes_on_at(b)
-        self.goes(lambda: a.ask('role') == 'standby, fed')
+        self.exchange_until(lambda: a.ask('role') == 'standby, fed')
         for path in a.places.satop, f'{a.places.satop}.ends':       # (so it knows none itself)
             os.unlink(path)
         b.power_off(link_down=True)

@@ -48,14 +48,14 @@ class TrunkWatchCase(support.LoopCase):
     def watched(self, **facts: Any) -> watch.TrunkWatch:
         config = self.write('trunk.toml', 'law = "A"\n')
         its = mock.Mock(flow=ClockStatus, **{
-            'places.return_value.tell': config, 'config_path.return_value': config, 'place.return_value': 0,
-            'outage.return_value': None, 'facts.return_value': TrunkFacts(**facts), 'starts.return_value': (),
+            'places.return_value.tell_path': config, 'config_path.return_value': config, 'place.return_value': 0,
+            'outage.return_value': None, 'facts.return_value': TrunkFacts(**facts), 'program_starts.return_value': (),
             'start_octet.return_value': 0})
         found = watch.TrunkWatch(watch.WatchWants(name='west', calls=self.path('calls')), its)
         self.addCleanup(found._close)
         self.given, self.told = list[bytes](), list[Event]()
         setattr(found._program, 'ask', self.ask)
-        setattr(found.client, 'tell', self.told.append)
+        setattr(found.client, 'report_event', self.told.append)
         return found
 
     async def ask(self, record: bytes, *_: object, **__: object) -> SimpleNamespace:
@@ -74,19 +74,19 @@ class WatchEdgeTests(TrunkWatchCase):
             found = self.watched()
             for n, state in ((3, State.ANSWERED), (4, State.SEIZED)):
                 found._lines.lines[n].begin(state, 0.0)
-            with mock.patch.object(found, 'tell') as tells:
+            with mock.patch.object(found, 'report_event') as tells:
                 found.on_clock_finding(ClockFinding(what, 0.25))
             self.assertEqual(tells.mock_calls, [mock.call(event)])
-            found._restarts.look(100.0, 0, found._lines.open_circuits(), True)
+            found._restarts.restart_due(100.0, 0, found._lines.open_circuits(), True)
             await asyncio.sleep(0)
             self.assertEqual([record[:2] for record in self.given], given)
-            self.assertEqual(found.known().renewed, len(given))
+            self.assertEqual(found.known_status().renewed, len(given))
 
     async def test_since_when_octets_were_lost(self) -> None:
         """By the time of day."""
         found, told = self.watched(), list[Event]()
         clock = SimpleNamespace(time=lambda: 1e9, monotonic=lambda: 100.0)
-        with mock.patch.object(watch, 'time', clock), mock.patch.object(found, 'tell', told.append):
+        with mock.patch.object(watch, 'time', clock), mock.patch.object(found, 'report_event', told.append):
             found.on_clock_finding(ClockFinding('gap', 0.25, 97.5))
         self.assertEqual(told, [Slip(0.25, 1e9 - 2.5)])
 
@@ -95,7 +95,7 @@ class WatchEdgeTests(TrunkWatchCase):
         found, commands = self.watched(), ('command 3 1 0', 'command 4 1 0')
         change = [row(3, 'seized', '00 10'), row(4, 'seized', '00 10'), row(3, 'acked', '00 11'), row(4, 'idle'),
                   row(3, 'answered', '00 01'), row(5, 'fault'), counts(3, 9, Late=2)]
-        setattr(found.client, 'tell', found.tell)
+        setattr(found.client, 'report_event', found.report_event)
         found.blocks = mock.Mock(**{'kept.now.word.return_value': None})
         found._lines.begin(4096)
         found._lines.take('\n'.join([*BEGIN, 'now', *commands, *change, '']).encode())
@@ -103,14 +103,14 @@ class WatchEdgeTests(TrunkWatchCase):
         found.count(3, 'seize', 'done')
         found._resyncs = 4
         found._lines.lines[3].opened = time.monotonic() - 5.0
-        calls, shown, wanted = found.client.calls_note(), found.page_notes(), found.known()
+        calls, shown, wanted = found.client.calls_note(), found.page_notes(), found.known_status()
         assert calls
         found._lines.take('\n'.join([row(3, 'fault'), row(5, 'idle'), row(4, 'answered'), '']).encode())
         later = self.watched()
         later.blocks = found.blocks
         later.restore_shown(typed(watch.ShownNote, json.loads(json.dumps(shown, default=vars))))
-        later.take_up(typed(CallsNote, json.loads(json.dumps(calls, default=vars))))
-        its = later.known()
+        later.restore_note(typed(CallsNote, json.loads(json.dumps(calls, default=vars))))
+        its = later.known_status()
         self.assertEqual((its.renewed, its.commands), (4, (CommandCount('seize', 'done', 1),)))
         for n in 3, 4, 5:
             before, after = wanted.circuits[n - 1], its.circuits[n - 1]
@@ -128,7 +128,7 @@ class WatchEdgeTests(TrunkWatchCase):
             later._lines.begin(begun)
             later._lines.take('\n'.join([*BEGIN, row(3, 'answered', '00 01', (0, 9, all_late)), counts(
                 3, 9, Late=late), 'now', '']).encode())
-            self.assertEqual(later.known().circuits[2].packets.datagrams['Late'], all_late)
+            self.assertEqual(later.known_status().circuits[2].packets.datagrams['Late'], all_late)
 
     async def test_a_wrong_rate(self) -> None:
         """It is an alarm, and red in the first line, up to the right one, also behind another watcher."""
@@ -144,27 +144,27 @@ class WatchEdgeTests(TrunkWatchCase):
         self.assertTrue(rate.is_wrong)
         for what, is_bad in ('wrong rate', True), ('right rate', False):
             later.on_clock_finding(ClockFinding(what, 0.9985))
-            self.assertEqual(len(later.known().alarms), is_bad)
+            self.assertEqual(len(later.known_status().alarms), is_bad)
             clock = ClockStatus(rate=0.9985, rate_wrong=is_bad)
-            parts = parts_of(replace(later.known(), clock=clock), PageNotes((), (), None))
+            parts = parts_of(replace(later.known_status(), clock=clock), PageNotes((), (), None))
             self.assertEqual('class="bad"' in body_of('state', parts['state'][:1]), is_bad)
             self.assertIn(f'{what.replace("right ", "")} 99.85 %', parts['state'][0].cells[0])
 
     async def test_who_fails_when_told(self) -> None:
         """It is reported where that was, the program is not blamed, and all others are told."""
         change = '\n'.join([row(3, 'seized', '00 10'), 'command 3 1 0', counts(3, 1), 'alarms 1 0 0 0', ''])
-        for kind, what in ((CallLog, 'on_state_change'), (CallNames, 'look'), (ReadEvents, 'take'),
+        for kind, what in ((CallLog, 'on_state_change'), (CallNames, 'note_states'), (ReadEvents, 'take'),
                            (TrunkPages, 'mark_stale'), (ProgramConnection, 'on_record'), (Resyncs, 'count_answers')):
             with self.subTest(what), mock.patch.object(kind, what, side_effect=KeyError('odd')):
                 found = self.watched()
                 found.blocks, follower = mock.Mock(), mock.Mock()
-                setattr(found.client, 'tell', found.tell)
+                setattr(found.client, 'report_event', found.report_event)
                 setattr(found._server, 'followers', lambda: [follower])
                 found._lines.begin(0)
                 found._lines.take('\n'.join([*BEGIN, 'now', '']).encode())
                 with self.assertLogs(level='DEBUG') as logs:
                     found._lines.take(change.encode())
-                told = [json.loads(call.args[0])['event'] for call in follower.tell.mock_calls]
+                told = [json.loads(call.args[0])['event'] for call in follower.send_line.mock_calls]
                 self.assertEqual(told, ['state', 'lost', 'alarm'])
                 self.assertIn("the watch of the trunk goes on: KeyError: 'odd' (", ''.join(logs.output))
 
@@ -192,7 +192,7 @@ class WatchEdgeTests(TrunkWatchCase):
         """Each is in the file once."""
         self.write('calls', 'a line\n')
         found = self.watched()
-        found.take_up(CallsNote(0, 0, 0.0, {}, (), {}, ('a line', 'another line')))
+        found.restore_note(CallsNote(0, 0, 0.0, {}, (), {}, ('a line', 'another line')))
         found._close()
         self.assertEqual(support.text_of(self.path('calls')), 'a line\nanother line\n')
 
@@ -202,7 +202,7 @@ class WatchEdgeTests(TrunkWatchCase):
         for is_known in True, False:
             its = self.watched().client
             if is_known:
-                its.take_up(CallsNote(OCTETS_A_SECOND, 0, 0.0, {}, (), {}, ()))
+                its.restore_note(CallsNote(OCTETS_A_SECOND, 0, 0.0, {}, (), {}, ()))
             missed = MissedReports(OCTETS_A_SECOND, False, 3 * OCTETS_A_SECOND, 3 * OCTETS_A_SECOND + 1024, text)
             with mock.patch.object(its._trunk, 'missed_reports', mock.AsyncMock(return_value=missed)), \
                     mock.patch.object(tell_client, 'logger') as told:
@@ -226,7 +226,7 @@ class WatchEdgeTests(TrunkWatchCase):
             writer.transport.get_write_buffer_size.return_value = held
             writer.transport.is_closing.return_value = is_gone
             with mock.patch('time.monotonic', lambda: 0.0):
-                ControlPeer(writer).tell('words')
+                ControlPeer(writer).send_line('words')
             self.assertEqual((writer.write.call_count, writer.transport.abort.call_count), calls)
 
     async def test_who_is_cleared(self) -> None:
@@ -242,7 +242,7 @@ class WatchEdgeTests(TrunkWatchCase):
             for n, line in found._lines.lines.items():
                 line.role, state = kinds[n - 1] if n <= len(kinds) else (out, State.FAULT)
                 line.begin(state, 0.0)
-            with mock.patch.object(found, 'tell') as tell:
+            with mock.patch.object(found, 'report_event') as tell:
                 found.clear_all('it is dark', blocks)
             await asyncio.sleep(0.01)
             self.assertEqual(self.given, [command_record(n, wanted[kind]) for n, kind in enumerate(kinds, 1)
@@ -260,10 +260,10 @@ class WatchEdgeTests(TrunkWatchCase):
 
     async def test_what_has_ended_and_goes_on(self) -> None:
         found = self.watched()
-        with mock.patch.object(found, 'tell') as tell, self.assertLogs(watch.__name__) as logs:
+        with mock.patch.object(found, 'report_event') as tell, self.assertLogs(watch.__name__) as logs:
             for why in 'no room', None:
                 found.set_ended('json', why)
-                self.assertEqual(found.known().ended, {'json': why, 'calls': None, 'session': None})
+                self.assertEqual(found.known_status().ended, {'json': why, 'calls': None, 'session': None})
         tell.assert_called_once_with(WatchEnded('json', 'no room'))
         self.assertEqual([each.getMessage() for each in logs.records], ['json: written again'])
 

@@ -179,7 +179,7 @@ class WatcherShowsTests(WatcherCase):
                               stdout=subprocess.PIPE, env={**os.environ, 'NOTIFY_SOCKET': self.manager.path}) as holder:
             assert holder.stdout
             watcher = int(holder.stdout.readline())
-            support.until(lambda: 'WATCHDOG=1' in self.manager.told())
+            support.until(lambda: 'WATCHDOG=1' in self.manager.read_lines())
             holder.kill()
         support.until(lambda: support.state_of(watcher) in ('', 'Z'))
 

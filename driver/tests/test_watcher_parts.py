@@ -127,7 +127,7 @@ class SaidFileTests(support.FolderCase):
                 for ticks in 1000, 2000:
                     with open(self.path('satop'), 'a', encoding='ascii') as file:
                         file.write(f'satop received=0 ticks={ticks}\n')
-                    its.look()
+                    its.take_lines()
             self.assertEqual(any('source port' in each.words() for each in told), is_told, far)
             its.close()
 
@@ -139,18 +139,18 @@ class SaidFileTests(support.FolderCase):
         told = list[Event]()
         its = SaidLine(self.path('said'), self.path('satop'), STATE.words, None, told.append)
         with self.assertLogs('e1gw.watcher.program_output') as logs:
-            its.look()
+            its.take_lines()
         self.assertEqual([each.getMessage() for each in logs.records], ['program: odd words'])
         self.assertEqual([type(each) for each in told], [Crc4Changed, SatopChanged])
         assert its.crc4
         self.assertEqual((its.crc4.counts['submultiframes'], plain_of(its.status('x'))['silent']), (500, 1))
         later = SaidLine(self.path('said'), self.path('satop'), STATE.words, its.noted(), told.append)
-        later.look()
+        later.take_lines()
         assert later.crc4
         self.assertEqual((later.crc4.counts['submultiframes'], len(told)), (500, 2))
         self.write('new', live.format(100))
         os.replace(self.path('new'), self.path('said'))
-        later.look()                            # (another program counts from 0)
+        later.take_lines()                            # (another program counts from 0)
         self.assertEqual(later.crc4.counts['submultiframes'], 600)
         for each in its, later:
             each.close()
@@ -196,26 +196,26 @@ class OpenLogTests(support.FolderCase):
         writer.begin(0, b'state', trunk_record(bytes(MULTIFRAME)))
         reader = LogReader(self.path('log'), 0.1, None, lambda: None, lambda: b'')
         self.addCleanup(reader.log.close)
-        reader.take_up(ReadingNote(), None)
-        reader.look()
+        reader.restore_note(ReadingNote(), None)
+        reader.read_at_tick()
         writer.append(trunk_record(bytes(MULTIFRAME)))
         with mock.patch('os.pread', side_effect=OSError(5, 'Input/output error')), \
                 self.assertLogs('e1gw.watcher.open_log') as told:
             for _ in range(3):
-                reader.look()
+                reader.read_at_tick()
             self.assertEqual(reader.log.pairs(), [])
         self.assertEqual([each.getMessage() for each in told.records],
                          ['the log cannot be read: Input/output error; it is tried again'])
         with self.assertLogs('e1gw.watcher.open_log') as told:
-            reader.look()
-            reader.look()
+            reader.read_at_tick()
+            reader.read_at_tick()
         self.assertEqual([each.getMessage() for each in told.records], ['the log is read again'])
         self.assertEqual(reader.octets, 2 * MULTIFRAME)
 
     def test_slips_are_counted_on(self) -> None:
         first, later = (LogReader(self.path('log'), 0.1, None, lambda: None, lambda: b'') for _ in range(2))
         first.clock.gaps, first.clock.lost_seconds = 2, 0.5
-        later.take_up(first.noted(), None)
+        later.restore_note(first.noted(), None)
         self.assertEqual((later.clock.status().gaps, later.clock.status().gap_seconds), (2, 0.5))
 
     def test_who_has_it(self) -> None:
@@ -229,14 +229,14 @@ class OpenLogTests(support.FolderCase):
 class HolderDoorTests(support.LoopCase):
     async def answers(self, answer: bytes | None) -> CommandAnswer:
         """What is made of an answer of a holder; of one that answers nothing with None."""
-        async def came(reader: asyncio.StreamReader, writer: asyncio.StreamWriter) -> None:
+        async def answer_word(reader: asyncio.StreamReader, writer: asyncio.StreamWriter) -> None:
             self.said = await reader.readline()
             if answer is None:
                 await reader.read()
             else:
                 writer.write(answer)
             writer.close()
-        server = await asyncio.start_unix_server(came, self.path('hold'))
+        server = await asyncio.start_unix_server(answer_word, self.path('hold'))
         try:
             return await ask_holder.ask(self.path('hold'), 'reload force', 0.1 if answer is None else None)
         finally:
@@ -275,10 +275,10 @@ class HeldTrunkTests(support.LoopCase):
         with open(f'{places.log}/lock', 'w', encoding='ascii') as lock:
             lock.write(f'{os.getpid()}\n')
 
-        def came(_: asyncio.StreamReader, writer: asyncio.StreamWriter) -> None:
+        def answer_word(_: asyncio.StreamReader, writer: asyncio.StreamWriter) -> None:
             writer.write(f'e1gw tell 1 A\nat {3 * MULTIFRAME}\n'.encode())
             writer.close()
-        await asyncio.start_unix_server(came, places.tell)
+        await asyncio.start_unix_server(answer_word, places.tell_path)
         await trunk.know_place()
         self.assertEqual((trunk.start_octet(), reader.octets), (MULTIFRAME, 4 * MULTIFRAME))
 

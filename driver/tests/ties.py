@@ -115,7 +115,7 @@ class StandInDriver:
             client.close()
         self.clients = []
 
-    def tell(self, **event: Any) -> None:
+    def send_event(self, **event: Any) -> None:
         for client in self.clients:
             client.write(json.dumps(event).encode() + b'\n')
 
@@ -148,7 +148,7 @@ class StandInDriver:
         answer = 'done' if mine and self.states[n] in of and not (is_taken or is_kept) else 'not idle'
         if answer == 'done':
             self.move(n, to)
-        self.tell(event='command', circuit=n, command=words[0], answer=answer)
+        self.send_event(event='command', circuit=n, command=words[0], answer=answer)
         return f'{words[0]} {n}: {"refused: " * (answer != "done")}{answer}'
 
     def status(self) -> dict[str, Any]:
@@ -165,7 +165,7 @@ class StandInDriver:
 
     def change(self, n: int, coding: Coding) -> str:
         self.codecs[n] = coding
-        self.tell(event='codec', circuit=n, codec=coding.codec, payload=coding.payload)
+        self.send_event(event='codec', circuit=n, codec=coding.codec, payload=coding.payload)
         return f'codec {n}: done'
 
     def move(self, n: int, state: State) -> None:
@@ -173,7 +173,7 @@ class StandInDriver:
         self.seizures[n] += state in (State.ACKED, State.SEIZED) and was is State.IDLE
         if state is not was:
             self.since[n] = asyncio.get_running_loop().time()
-            self.tell(event='state', circuit=n, role=str(self.roles[n]), was=str(was), state=str(state))
+            self.send_event(event='state', circuit=n, role=str(self.roles[n]), was=str(was), state=str(state))
         if self.roles[n] is Role.OUTGOING and self.acknowledges:
             self.pairs[n] = {State.SEIZED: HELD, State.RELEASING: IDLE}.get(state, self.pairs[n])
 

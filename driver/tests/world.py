@@ -105,12 +105,12 @@ class World:
         end = time.monotonic() + waits.SECONDS
         while self.process.poll() is None and time.monotonic() < end:
             try:
-                if self.ask_at_once(NO_EFFECT) == NO_EFFECT_ANSWER and self.known()['program']:
+                if self.ask_at_once(NO_EFFECT) == NO_EFFECT_ANSWER and self.status_at_once()['program']:
                     return
             except (OSError, EOFError):
                 time.sleep(0.01)
             else:
-                self.give(b'\xff' * MULTIFRAME)
+                self.exchange_octets(b'\xff' * MULTIFRAME)
         raise AssertionError(f'the service does not come to know the trunk: {self.wait()}')
 
     def __enter__(self) -> Self:
@@ -148,23 +148,23 @@ class World:
         """Returns once the service knows what was given. (It connects to another program a moment after its start.)"""
         support.until(lambda: self.ask_at_once(NO_EFFECT) == NO_EFFECT_ANSWER)
 
-    def known(self) -> dict[str, Any]:
+    def status_at_once(self) -> dict[str, Any]:
         """The status of a service that may not know what was given before."""
         found: dict[str, Any] = json.loads(self.ask_at_once('status json'))
         return found
 
-    def told(self) -> dict[str, Any]:
+    def recent_status(self) -> dict[str, Any]:
         """The status, which may be a moment old; every change that was told is in it."""
         self.wait_for_service()
-        return self.known()
+        return self.status_at_once()
 
     def status(self) -> dict[str, Any]:
         """The status of now."""
         began = round(time.time(), 3)
-        return support.until(lambda: found if (found := self.told())['time'] >= began else None, 0.01)
+        return support.until(lambda: found if (found := self.recent_status())['time'] >= began else None, 0.01)
 
     def state(self, circuit: int) -> str:
-        return str(self.told()['circuits'][circuit - 1]['state'])
+        return str(self.recent_status()['circuits'][circuit - 1]['state'])
 
     def follow(self) -> Any:
         """A stream of events."""
@@ -205,11 +205,11 @@ class World:
     def step(self, multiframes: int = 1) -> None:
         """Multiframes to and fro."""
         for _ in range(multiframes):
-            self.give(self.exchange.multiframe())
+            self.exchange_octets(self.exchange.multiframe())
             if self.answers:
                 self._answer()
 
-    def give(self, octets: bytes) -> bytes:
+    def exchange_octets(self, octets: bytes) -> bytes:
         """Octets to the service; as many that come back."""
         self.line.sendall(octets)
         back = support.read_from(self.line, len(octets))

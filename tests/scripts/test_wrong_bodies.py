@@ -1,13 +1,17 @@
 """Tests scripts/wrong-bodies on a small crate, with the prover, and which function a place is in."""
+import io
 import os
 import shutil
 import subprocess
+import sys
 import unittest
+from contextlib import redirect_stdout
+from unittest import mock
 
 import pytest
 
 import rattle_source
-from . import FolderCase, SCRIPTS
+from . import FolderCase, SCRIPTS, loaded
 
 
 SOURCE = '''//! Sums of small numbers.
@@ -69,7 +73,8 @@ EDITS = {
 
 @pytest.mark.timeout(900)       # (seconds: it calls the prover)
 class WrongBodiesTests(FolderCase):
-    def test_each_kind(self) -> None:
+    def setUp(self) -> None:
+        super().setUp()
         os.mkdir(f'{self.top}/scripts')
         for name in ('wrong-bodies', 'libraries.py', 'kit.py', 'rattle_source.py'):
             shutil.copy(f'{SCRIPTS}/{name}', f'{self.top}/scripts/{name}')
@@ -79,22 +84,38 @@ class WrongBodiesTests(FolderCase):
                   for name, (text, _) in EDITS.items()}
         for path, text in texts.items():
             self.write(path, text)
-        status, told, last = self.tried()
+
+    def test_each_kind(self) -> None:
+        ran = subprocess.run([f'{self.top}/scripts/wrong-bodies'], stdout=subprocess.PIPE, text=True)
+        told, last = words_of_edits(ran.stdout)
         self.assertEqual(sorted(told), sorted(EDITS))
         for name, (_, said) in EDITS.items():
             self.assertTrue(told[name].startswith(said), f'{name}: {told[name]}')
-        self.assertEqual((status, last), (1, '4 passed, 6 failed'))
-        halves = [self.tried('--part', part)[1] for part in ('0/2', '1/2')]
-        self.assertEqual(halves[0] | halves[1], told)
-        unread = {name for name, text in told.items() if text.startswith('BAD EDIT')}
+        self.assertEqual((ran.returncode, last), (1, '4 passed, 6 failed'))
+
+    def test_parts(self) -> None:
+        """Each edit is in one part, and one that is none in all of them. (No prover is asked.)"""
+        its = loaded('wrong-bodies')
+        asked = mock.Mock(**{'return_value.check': lambda crate, texts, functions, kept: ''.join(
+            f'fn {crate}::{name}: proved\n' for name in functions) + 'logic=proved\n'})
+        told = list[dict[str, str]]()
+        for part in list[str](), ['--part', '0/2'], ['--part', '1/2']:
+            with mock.patch.multiple(its, TOP=self.top, Toolchain=asked), \
+                    mock.patch.multiple(its.libraries, graph=lambda: {'small': []}, below=lambda *_: []), \
+                    mock.patch.object(sys, 'argv', ['wrong-bodies', *part]), redirect_stdout(io.StringIO()) as said:
+                self.assertEqual(its.main(), 1)
+            told.append(words_of_edits(said.getvalue())[0])
+        whole, *halves = told
+        unread = {name for name, text in whole.items() if text.startswith('BAD EDIT')}
+        self.assertEqual((len(whole), len(unread), halves[0] | halves[1]), (len(EDITS), 2, whole))
         self.assertEqual(halves[0].keys() & halves[1].keys(), unread)
         self.assertTrue(all(half.keys() - unread for half in halves))
 
-    def tried(self, *words: str) -> tuple[int, dict[str, str], str]:
-        """The status, what is said of each edit, and the last line."""
-        ran = subprocess.run([f'{self.top}/scripts/wrong-bodies', *words], stdout=subprocess.PIPE, text=True)
-        *lines, last = ran.stdout.splitlines()
-        return ran.returncode, dict(line.removeprefix('small/').split(': ', 1) for line in lines), last
+
+def words_of_edits(printed: str) -> tuple[dict[str, str], str]:
+    """What is said of each edit, and the last line."""
+    *lines, last = printed.splitlines()
+    return dict(line.removeprefix('small/').split(': ', 1) for line in lines), last
 
 
 class FunctionTests(unittest.TestCase):

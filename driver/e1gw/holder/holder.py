@@ -85,7 +85,7 @@ class Holder:
         if now >= self._ticked + TICK:
             self._ticked = now
             self._tick(now)
-        self.reloads.look(now)
+        self.reloads.follow_trial(now)
         if self.line.files:
             self.line.step(now)
         if self.program:
@@ -115,7 +115,7 @@ class Holder:
 
     def _stand_by(self, now: float) -> None:
         """Has a version ready: calls wait once it takes the trunk."""
-        if self.line.is_opening and self.line.look(now):
+        if self.line.is_opening and self.line.try_to_open(now):
             self.line.close()               # (it was opened too late)
         if not self.versions.now and now >= self.due:
             self.reloads.try_first()
@@ -124,7 +124,7 @@ class Holder:
         """Goes towards a program, if there is none: a version, the line, a start."""
         if not self.versions.now:
             return self.reloads.try_first() if now >= self.due else None
-        if not self.line.files and self.line.look(now):
+        if not self.line.files and self.line.try_to_open(now):
             self._on_opening_end()
         if self.line.files and now >= self.due and self.status is None:
             start_program(self, now)
@@ -140,7 +140,7 @@ class Holder:
 
     def _tick(self, now: float) -> None:
         """A few times a second."""
-        self.store.tell('WATCHDOG=1')
+        self.store.send_message('WATCHDOG=1')
         if self.watcher:
             self.watcher.step(now)
         if self.versions.trial and now >= self.versions.trial.until:
@@ -200,14 +200,14 @@ class Holder:
                 self.reloads.begin(request)
             case 'renew' if self.program and self.program.is_up:
                 if why := self.renew(now):
-                    return request.refused(why)
+                    return request.answer_refused(why)
                 self.requests.append(request)
             case 'renew':
-                request.refused('no program carries the trunk')
+                request.answer_refused('no program carries the trunk')
             case words if CHANGES.fullmatch(words):
                 change_role(self, request, now)
             case 'quit':
-                request.done()
+                request.answer_done()
                 self.end('quit')
             case _:
                 request.answer('unknown')
@@ -229,9 +229,9 @@ class Holder:
             self.store.notify('READY=1')           # (systemd waits for the end of it, too)
         for each in its:
             if refused:
-                each.refused(refused)
+                each.answer_refused(refused)
             else:
-                each.done()
+                each.answer_done()
 
     # ---- what others have and know ----
 

@@ -2,15 +2,15 @@
 waits for or dies of is nothing to the program that carries the trunk."""
 from __future__ import annotations
 
-import json
 import os
 import signal
 import sys
 import time
-from typing import Any, Collection, Mapping
+from typing import Collection
 
 from e1gw_common.fault_words import words_of_fault
 from ..memory import in_memory, octets_in
+from .job_types import JobAnswer, JobRequest, answer_in
 from .program import spawned
 
 SECONDS, PATIENCE = 10.0, 30.0      # for the program to check a configuration, and for names; for all of it
@@ -20,15 +20,15 @@ PYTHON = 'import sys; sys.path[:0] = [sys.argv.pop(1)]; from e1gw.trial import m
 
 
 class Job:
-    """One that runs. What it is asked and what it answers are JSON."""
+    """One that runs."""
 
-    def __init__(self, asked: Mapping[str, Any], files: Collection[int] = ()) -> None:
+    def __init__(self, asked: JobRequest, files: Collection[int] = ()) -> None:
         """It has these descriptors by their numbers."""
         self._until, self._later = time.monotonic() + PATIENCE, 'it is not tried to its end'
         self._found = self._pid = wants = -1
         try:
             self._found = os.memfd_create('e1gw-found')
-            wants = in_memory(json.dumps({**asked, 'seconds': SECONDS}).encode())
+            wants = in_memory(asked._replace(seconds=SECONDS).spell())
             os.lseek(wants, 0, os.SEEK_SET)
             self._pid = spawned(sys.executable, [sys.executable, '-BPS', '-c', PYTHON, TOP],
                                 [(wants, 0), (self._found, 1), *zip(files, files)])
@@ -37,22 +37,22 @@ class Job:
         if wants >= 0:
             os.close(wants)
 
-    def look(self) -> Mapping[str, Any] | None:
+    def poll_answer(self) -> JobAnswer | None:
         """Its answer, once, if it has one; of one that cannot be started, dies or takes too long why it is refused."""
         if self._pid > 0 and os.waitpid(self._pid, os.WNOHANG)[0]:
             self._pid = -1                  # (from now on its number may be another one's)
         if self._pid > 0 and time.monotonic() < self._until:
             return None
         try:
-            return dict(json.loads(octets_in(self._found)))
+            return answer_in(octets_in(self._found))
         except ValueError:
-            return {'later': self._later}
+            return JobAnswer(later=self._later)
         finally:
             self.end()
 
-    def wait(self) -> Mapping[str, Any]:
+    def wait_for_answer(self) -> JobAnswer:
         """Waits for its answer."""
-        while (found := self.look()) is None:
+        while (found := self.poll_answer()) is None:
             time.sleep(SOON)
         return found
 
@@ -64,8 +64,3 @@ class Job:
             os.kill(self._pid, signal.SIGKILL)
             os.waitpid(self._pid, 0)
         self._found = self._pid = -1
-
-
-def why_not(found: Mapping[str, Any]) -> str:
-    """Why what was asked was not done, by the answer; nothing if it was."""
-    return str(found.get('refused') or found.get('later') or '')

@@ -14,7 +14,8 @@ from e1gw_common.fault_words import name_of_process, words_of_fault
 from e1gw_common.writers import put_file
 from ..holder_state import folder_in_memory
 from .decisions import FIRST_PAUSE, Decision, EndFault, EndOfProgram, EndReason, NextAct, after_end
-from .job import Job, why_not
+from .job import Job
+from .job_types import JobRequest
 from .journal import Severity, log_line
 from .log import has_log, is_there, rename_over, user_of
 from .program import CRASHES, HeldProgram, ProgramWants, counted_octets, end_words, fault_in, open_said
@@ -275,8 +276,8 @@ def save(holder: Holder) -> bool:
     version = holder.versions.now
     if not version:
         return False
-    asked = {'what': 'save', 'program': version.program, 'config': version.its.config(), 'state': holder.options.state,
-             'log': f'{holder.folder}/log', 'wait': holder.options.wait}
-    if why := why_not(Job(asked, [version.program]).wait()):
+    asked = JobRequest('save', program=version.program, config=version.its.config(), state=holder.options.state,
+                       log=f'{holder.folder}/log', wait=holder.options.wait)
+    if why := Job(asked, [version.program]).wait_for_answer().why_not:
         log_line(Severity.ERROR, f'the state is not saved, and the log stays: {why}')
     return not why

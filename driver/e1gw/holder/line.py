@@ -8,12 +8,13 @@ import stat
 import threading
 import time
 import zlib
-from typing import TYPE_CHECKING, Any, Mapping
+from typing import TYPE_CHECKING, Mapping
 
 from e1gw_common.fault_words import words_of_fault
 from .decisions import Openings
 from .journal import Severity, log_line
 from .loop import Loop
+from .note import HeldLineNote
 from .options import LineWants
 
 if TYPE_CHECKING:
@@ -62,7 +63,7 @@ class HeldLine:
     def is_opening(self) -> bool:
         return self._thread is not None
 
-    def look(self, now: float) -> bool:
+    def try_to_open(self, now: float) -> bool:
         """To be called while it is not open: whether it has come to be known that it can or cannot be."""
         if self._thread is None and now >= self._openings.due:
             self._found, self._thread = None, threading.Thread(target=self._work, daemon=True)
@@ -119,13 +120,13 @@ class HeldLine:
             return 'the card is gone'
         return 'the trunk has ended' if has_ended(self.program_files[0], took) else ''
 
-    def note(self) -> dict[str, Any]:
+    def note(self) -> HeldLineNote:
         """What the process has to know that this one becomes, which has all descriptors."""
-        return {'since': self.since}
+        return HeldLineNote(self.since)
 
-    def take_up(self, note: Mapping[str, Any]) -> None:
+    def restore_note(self, note: HeldLineNote) -> None:
         """The reverse."""
-        self.since = note['since']
+        self.since = note.since
 
     def end(self, why: str, now: float) -> None:
         """It is closed, to be opened again."""

@@ -35,16 +35,19 @@ class HeldLog:
             return False
 
     def hold(self, folder: str) -> None:
-        """Holds those of a folder. OSError if one is not there."""
+        """Holds those of a folder, all of one: another may take its place meanwhile. OSError if one is not there."""
         if self.are_in(folder):
             return
         self.close()
+        place = os.open(folder, os.O_RDONLY | os.O_DIRECTORY | os.O_CLOEXEC)
         try:
             for name in FILES:
-                self._files[name] = os.open(f'{folder}/{name}', os.O_RDONLY | os.O_CLOEXEC)
+                self._files[name] = os.open(name, os.O_RDONLY | os.O_CLOEXEC, dir_fd=place)
         except OSError:
             self.close()
             raise
+        finally:
+            os.close(place)
 
     def close(self) -> None:
         while self._files:

@@ -10,10 +10,12 @@ from typing import NoReturn
 from e1gw_common.fault_words import options_words, words_of_fault
 from e1gw_common.writers import hold_descriptors
 from ..holder_state import plain_in
-from ..lock import InUse, hold, let_go
+from ..lock import InUse, release_lock, take_lock
 from .decisions import Beginning, beginning_of, is_active
 from .holder import Holder
-from .job import Job, why_not
+from .job import Job
+from .job_types import JobRequest
+from .note import HolderNote
 from .journal import NAME, Severity, log_line
 from .lifecycle import LOST, finish
 from .line import HeldLine
@@ -58,7 +60,7 @@ def main(words: list[str] | None = None) -> NoReturn:
     begin(holder)
     holder.watcher = watcher_of(options, store, loop)
     status = holder.run()
-    let_go(holder.lock, f'{options.folder}.lock')
+    release_lock(holder.lock, f'{options.folder}.lock')
     end(status, store)
 
 
@@ -73,7 +75,7 @@ def lock_trunk(folder: str, store: Store) -> int:
     """The lock of the trunk, whose folder nobody else can write to. InUse says who has it; OSError if it cannot be
     had."""
     os.makedirs(os.path.dirname(folder), exist_ok=True)
-    lock = store.files.pop('lock') if 'lock' in store.files else hold(f'{folder}.lock')
+    lock = store.files.pop('lock') if 'lock' in store.files else take_lock(f'{folder}.lock')
     make_own(folder)
     return lock
 
@@ -90,20 +92,20 @@ def begin(holder: Holder) -> None:
     """Goes on where the holder before this one has left, or from what was saved, or anew."""
     store, options, log = holder.store, holder.options, f'{holder.folder}/log'
     has_log, before = is_there(log) or bool(holder.log.files), plain_in(f'{holder.folder}/holder')
-    how = beginning_of('child' in store.was, has_log, options.is_saved and os.path.exists(options.state))
+    how = beginning_of(store.was is not None, has_log, options.is_saved and os.path.exists(options.state))
     holder.is_active = is_active(options.is_standby, before.get('role', ''), bool(holder.line.files))
     holder.why, holder.was_up = str(how.value), how in (Beginning.REPLACED, Beginning.KILLED)
     if version := version_left(holder, how):
         holder.versions.switch_to(version)
-    if how is Beginning.REPLACED:
-        resume_replaced(holder)
+    if store.was:
+        resume_replaced(holder, store.was)
     elif how is Beginning.KILLED:
         holder.silent -= silence_of(log)
         holder.lost = LOST if has_died(holder.folder) else ''
         if 'DSCP' in os.environ:            # (it marks what this cgroup has opened, and that of before is gone)
             holder.sockets.close_others(())
             store.keep(holder.descriptors_to_store())
-            store.let_go()
+            store.wait_until_closed()
         if holder.line.files:
             holder.line.since = before.get('opened', holder.line.since)
     elif how is Beginning.SAVED:
@@ -141,18 +143,18 @@ def watcher_of(options: Options, store: Store, loop: Loop) -> WatcherChild | Non
     path = os.path.join(os.path.dirname(os.path.abspath(sys.argv[0])), 'e1gw-watch')
     watcher = WatcherChild([path, '--config', options.config, '--name', options.name, '--program', options.program,
                             '--folder', os.path.dirname(options.folder), *options.watch], loop)
-    if pid := store.was.get('watcher'):
-        watcher.take_up(pid)
+    if store.was and store.was.watcher:
+        watcher.adopt_child(store.was.watcher)
     return watcher
 
 
-def resume_replaced(holder: Holder) -> None:
+def resume_replaced(holder: Holder, was: HolderNote) -> None:
     """This process was another holder, whose child and descriptors it has."""
-    was, files = holder.store.was, holder.store.files
-    holder.program = HeldProgram(was['child'], holder.loop, files.pop('leash'), files.pop('said'))
-    holder.since = was['since']
-    holder.line.take_up(was['line'])
-    log_line(Severity.NOTICE, f'{holder.why}: program {was["child"]} goes on')
+    files = holder.store.files
+    holder.program = HeldProgram(was.child, holder.loop, files.pop('leash'), files.pop('said'))
+    holder.since = was.since
+    holder.line.restore_note(was.line)
+    log_line(Severity.NOTICE, f'{holder.why}: program {was.child} goes on')
 
 
 def has_died(folder: str) -> bool:
@@ -166,6 +168,6 @@ def has_died(folder: str) -> bool:
 
 def load(holder: Holder) -> None:
     """Begins with the state that was saved."""
-    asked = {'what': 'load', 'state': holder.options.state, 'log': f'{holder.folder}/log'}
-    if why := why_not(Job(asked).wait()):
+    asked = JobRequest('load', state=holder.options.state, log=f'{holder.folder}/log')
+    if why := Job(asked).wait_for_answer().why_not:
         finish(holder, f'the state is not loaded: {why}', 1)

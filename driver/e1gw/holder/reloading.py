@@ -5,15 +5,17 @@ from __future__ import annotations
 import os
 import signal
 import time
-from typing import TYPE_CHECKING, Any, Mapping
+from typing import TYPE_CHECKING
 
 from e1gw_common.fault_words import words_of_fault
 from .decisions import EndReason
-from .job import Job, why_not
+from .job import Job
+from .job_types import JobAnswer, JobRequest
 from .journal import Severity, log_line
 from .lifecycle import finish, put_version
+from .note import HolderNote
 from .requests import HolderRequest
-from .version import Version, tried_in, version_of
+from .version import Version, version_of
 
 if TYPE_CHECKING:
     from .holder import Holder
@@ -53,9 +55,9 @@ class Reloads:
         """Tries the program and the configuration of now; a program of them follows if they will do."""
         holder = self._holder
         if holder.ending:
-            return request.refused('the end is asked for')
+            return request.answer_refused('the end is asked for')
         if self.is_busy or not holder.versions.now:
-            return request.refused('one is tried already', 'busy')
+            return request.answer_refused('one is tried already', 'busy')
         holder.store.notify('RELOADING=1', f'MONOTONIC_USEC={time.monotonic_ns() // 1000}')
         self._try(request, holder.versions.now)
 
@@ -64,31 +66,31 @@ class Reloads:
         try:
             self._program = program = os.open(options.program, os.O_RDONLY | os.O_CLOEXEC)
         except OSError as fault:
-            return self._refuse(request, {'later': words_of_fault(fault)})
-        asked = {'what': 'try', 'program': program, 'config': options.config, 'senders': options.senders,
-                 'wait': options.wait, 'log': self._log(), 'force': request.text.endswith(' force'),
-                 'when_idle': request.text.endswith(' when-idle'),
-                 'before': before.its._asdict() if before else None, 'program_before': before.program if before else -1}
+            return self._refuse(request, JobAnswer(later=words_of_fault(fault)))
+        asked = JobRequest('try', program=program, config=options.config, senders=options.senders, wait=options.wait,
+                           log=self._log(), force=request.text.endswith(' force'),
+                           when_idle=request.text.endswith(' when-idle'), before=before.its if before else None,
+                           program_before=before.program if before else -1)
         self._request, self._job = request, Job(asked, [program, before.program] if before else [program])
 
     def _log(self) -> str:
         """What is known of the trunk."""
         return f'{self._holder.folder}/{"log" if self._holder.is_active else "fed"}'
 
-    def look(self, now: float) -> None:
+    def follow_trial(self, now: float) -> None:
         """Does what follows a trial."""
-        found = self._job.look() if self._job else None
+        found = self._job.poll_answer() if self._job else None
         if found is None:
             return
         request, self._job = self._request, None
         if request.word == 'replace':
             return self._become_next(found)
-        if 'tried' in found:
-            version, request.told = version_of(self._program, tried_in(found['tried'])), found.get('changes', '')
-            if found.get('runs') and request.has_client and not request.text.endswith(' force'):
+        if found.tried:
+            version, request.told = version_of(self._program, found.tried), found.changes
+            if found.runs and request.has_client and not request.text.endswith(' force'):
                 request.told = request.told or NOTHING
                 return self._keep_on(request, version)
-            return self._switch_to(request, version, found.get('told', ''), now)
+            return self._switch_to(request, version, found.told, now)
         os.close(self._program)
         self._refuse(request, found)
 
@@ -100,7 +102,7 @@ class Reloads:
         holder.publish()
         if request.word == 'reload':
             holder.store.notify('READY=1')
-        request.done()
+        request.answer_done()
 
     def _switch_to(self, request: HolderRequest, version: Version, told: str, now: float) -> None:
         """A program of this version follows."""
@@ -120,15 +122,15 @@ class Reloads:
             holder.request_end(EndReason.RELOAD, now)
         holder.due = now
 
-    def _refuse(self, request: HolderRequest, found: Mapping[str, Any]) -> None:
+    def _refuse(self, request: HolderRequest, found: JobAnswer) -> None:
         """The trunk goes on as it was. Without a version what may come back is waited for, if somebody wants that."""
-        holder, why = self._holder, why_not(found)
+        holder, why = self._holder, found.why_not
         if request.word != 'begin':
             log_line(Severity.ERROR, f'reload: refused, the trunk goes on as it was: {why}')
             holder.store.notify('READY=1')
-            return request.refused(f'the trunk goes on as it was: {why}')
-        if not holder.was_up and ('refused' in found or not holder.options.line.reopens):
-            return finish(holder, why, 2 if 'refused' in found else 1)
+            return request.answer_refused(f'the trunk goes on as it was: {why}')
+        if not holder.was_up and (found.refused or not holder.options.line.reopens):
+            return finish(holder, why, 2 if found.refused else 1)
         if why != self._said:
             log_line(Severity.ERROR, f'{why}; it is tried again')
             holder.report_waiting(why)
@@ -141,7 +143,7 @@ class Reloads:
         """Another holder in place of this one, if it can begin. The program goes on meanwhile."""
         if why := self._why_not_replaced():
             return log_line(Severity.ERROR, f'replace: refused: {why}')
-        self._job, self._request = Job({'what': 'begin'}), HolderRequest(None, 'replace')
+        self._job, self._request = Job(JobRequest('begin')), HolderRequest(None, 'replace')
 
     def _why_not_replaced(self) -> str:
         program = self._holder.program
@@ -149,21 +151,21 @@ class Reloads:
             return 'no program carries the trunk, or another one is to follow'
         return ''
 
-    def _become_next(self, found: Mapping[str, Any]) -> None:
+    def _become_next(self, found: JobAnswer) -> None:
         holder, program = self._holder, self._holder.program
-        why = why_not(found) or self._why_not_replaced()
+        why = found.why_not or self._why_not_replaced()
         if why or not program:
             return log_line(Severity.ERROR, f'replace: refused: {why}')
         holder.versions.confirm()             # (its trial ends here)
         holder.publish()
         files = {**holder.descriptors_to_store(), **holder.line.files, 'leash': program.leash, 'said': program.said,
                  'lock': holder.lock}
-        holder.store.become_next(files, {'child': program.pid, 'since': holder.since, 'line': holder.line.note(),
-                                         'watcher': holder.watcher.pid if holder.watcher else 0})
+        holder.store.become_next(files, HolderNote(program.pid, holder.since, holder.line.note(),
+                                                   holder.watcher.pid if holder.watcher else 0))
 
     def close(self) -> None:
         """Ends what is tried."""
         if self._job:
             self._job.end()
-            self._request.refused('the trunk has ended')
+            self._request.answer_refused('the trunk has ended')
         self._job = None

@@ -23,11 +23,11 @@ class HolderRequest:
     def has_client(self) -> bool:
         return self._line is not None
 
-    def done(self) -> None:
+    def answer_done(self) -> None:
         """It was done; with what was `told` of it in a line before."""
         self.answer(f'{self.word}: {self.told}\n' * bool(self.told) + f'{self.word}: done')
 
-    def refused(self, why: str, word: str = 'refused') -> None:
+    def answer_refused(self, why: str, word: str = 'refused') -> None:
         self.answer(f'{self.word}: {word}: {" ".join(why.splitlines())}')
 
     def answer(self, words: str) -> None:

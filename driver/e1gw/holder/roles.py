@@ -31,7 +31,7 @@ def change_role(holder: Holder, request: HolderRequest, now: float) -> None:
         holder.is_active, holder.due = is_active, now
         holder.answer_waiting('release' if is_active else 'take', refused=REVERSE)
     if is_active and program and program.is_up and not program.asked:
-        return request.done()
+        return request.answer_done()
     holder.requests.append(request)
     if not (is_active or program):
         holder.release()

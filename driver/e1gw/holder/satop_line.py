@@ -3,20 +3,19 @@ which the program has the end `near`, the process `far`. The holder holds both, 
 starts the process again in its place. If the holder dies both end, and the next one begins with a pair of its own."""
 from __future__ import annotations
 
-import json
 import os
 import socket
 import time
 from contextlib import contextmanager, suppress
-from typing import Any, Iterator, Mapping
+from typing import Iterator, Mapping
 
 from e1gw_common.addresses import host_and_port
-from e1gw_common.writers import put_file
-from ..satop_numbers import ENDS, begun_in, lines_in, number_of_now
+from ..satop_numbers import SatopBegun, begun_in, lines_in, number_of_now
 from .decisions import Openings
 from .journal import Severity, log_line
 from .line import HeldLine
 from .loop import Loop
+from .note import HeldLineNote
 from .options import LineWants
 from .program import Child, end_words, open_said, spawned
 
@@ -64,7 +63,7 @@ class SatopLine(HeldLine):
         from ..satop import addresses_of
         before = begun_in(self._path)
         near, far, *words = self.options.satop
-        known = before.get('words', []) if before.get('asked') == [*self.options.satop] else []
+        known = [*before.words] if before.asked == self.options.satop else []
         self._words = known or [*addresses_of(host_and_port(near), host_and_port(far)), *words]
         pair = socket.socketpair()
         pair[0].setblocking(False)
@@ -82,9 +81,8 @@ class SatopLine(HeldLine):
         number = self._next_number()
         self._lacked, self._restarts = not can_send(self._words), self._restarts.with_one(now)
         said, far = open_said(self._path), self.files[self.writes]
-        begun = {'asked': [*self.options.satop], 'words': self._words, 'first': number}
         with suppress(OSError):
-            put_file(f'{self._path}{ENDS}', json.dumps(begun).encode(), 0o640)
+            SatopBegun(self.options.satop, (*self._words,), number).put(self._path)
         try:
             pid = spawned(self.options.program, ['e1gw', 'satop', *self._words, '--sequence', str(number)],
                           zip((far, far, said), range(3)))
@@ -165,14 +163,14 @@ class SatopLine(HeldLine):
         self._ones_due = 0.0
         super().close()
 
-    def note(self) -> dict[str, Any]:
-        return {**super().note(), 'pid': self.pid, 'words': self._words, 'why': self._why}
+    def note(self) -> HeldLineNote:
+        return super().note()._replace(pid=self.pid, words=self._words, why=self._why)
 
-    def take_up(self, note: Mapping[str, Any]) -> None:
-        super().take_up(note)
-        self._words, self._why = note['words'], note['why']
-        if note['pid']:
-            self._child = Child(note['pid'], self.loop, self._on_exit)
+    def restore_note(self, note: HeldLineNote) -> None:
+        super().restore_note(note)
+        self._words, self._why = [*note.words], note.why
+        if note.pid:
+            self._child = Child(note.pid, self.loop, self._on_exit)
 
 
 @contextmanager

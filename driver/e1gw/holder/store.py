@@ -4,21 +4,20 @@ from __future__ import annotations
 
 import array
 import fcntl
-import json
 import os
 import select
 import signal
 import socket
 import sys
 import time
-from typing import Any, Mapping, NoReturn
+from typing import Mapping, NoReturn
 
 from .loop import CAUGHT
+from .note import HolderNote, Identity, note_in
 
 FIRST, APART = 3, 400       # the first descriptor that systemd gives; where they are put
 GRACE, HEARD, SOON = 5.0, 1.0, 0.01     # seconds for systemd at the end, and before that; between two tries
 HELD = 'E1GW_HELD'          # what the process has that became this one
-Identity = tuple[int, int]
 
 
 class Store:
@@ -33,13 +32,13 @@ class Store:
         self.lags, self._pending = False, list[str]()       # something was not taken; what is to be told
         self.files, self.was = self._given()
 
-    def _given(self) -> tuple[dict[str, int], dict[str, Any]]:
+    def _given(self) -> tuple[dict[str, int], HolderNote | None]:
         if text := os.environ.pop(HELD, ''):
-            was: dict[str, Any] = json.loads(text)
-            for file in was['files'].values():
+            was = note_in(text)
+            for file in was.files.values():
                 os.set_inheritable(file, False)
-            self._kept = {name: (its[0], its[1]) for name, its in was['kept'].items()}
-            return was['files'], was
+            self._kept = {**was.kept}
+            return {**was.files}, was
         count, pid = int(os.environ.pop('LISTEN_FDS', '0')), os.environ.pop('LISTEN_PID', '')
         names, files = os.environ.pop('LISTEN_FDNAMES', '').split(':'), dict[str, int]()
         if pid == str(os.getpid()):
@@ -47,14 +46,14 @@ class Store:
                 files[name] = fcntl.fcntl(number, fcntl.F_DUPFD_CLOEXEC, APART)
                 os.close(number)
         self._kept = {name: known for name, file in files.items() if (known := identity(file))}
-        return files, {}
+        return files, None
 
     @property
     def has_manager(self) -> bool:
         """Whether systemd listens, which begins another holder if this one ends."""
         return bool(self._path)
 
-    def tell(self, *lines: str, file: int = -1) -> bool:
+    def send_message(self, *lines: str, file: int = -1) -> bool:
         """Whether it was taken, or nobody listens. (systemd lets ten messages wait.)"""
         if not self._path:
             return True
@@ -83,18 +82,18 @@ class Store:
 
     def _is_sent(self) -> bool:
         while self._pending:
-            if not self.tell(self._pending[0]):
+            if not self.send_message(self._pending[0]):
                 return False
             self._pending.pop(0)
         its = self._wanted if self._path else {}
         for name in [name for name, known in self._kept.items() if name not in its or its[name][1] != known]:
-            if not self.tell('FDSTOREREMOVE=1', f'FDNAME={name}'):
+            if not self.send_message('FDSTOREREMOVE=1', f'FDNAME={name}'):
                 return False
             del self._kept[name]
         for name, (file, known) in its.items():
             if name in self._kept or identity(file) != known:       # (one that is closed is soon kept no more)
                 continue
-            if not self.tell('FDSTORE=1', f'FDNAME={name}', 'FDPOLL=0', file=file):
+            if not self.send_message('FDSTORE=1', f'FDNAME={name}', 'FDPOLL=0', file=file):
                 return False
             self._kept[name] = known
         return True
@@ -107,23 +106,23 @@ class Store:
             time.sleep(SOON)
             self.send()
 
-    def let_go(self) -> None:
+    def wait_until_closed(self) -> None:
         """systemd has closed what it is no longer to keep (sd_notify_barrier(3)), unless that takes too long."""
         (reads, writes), until = os.pipe(), time.monotonic() + HEARD
-        while (self.lags or not self.tell('BARRIER=1', file=writes)) and time.monotonic() < until:
+        while (self.lags or not self.send_message('BARRIER=1', file=writes)) and time.monotonic() < until:
             time.sleep(SOON)
             self.send()
         os.close(writes)
         select.select([reads], [], [], max(0.0, until - time.monotonic()) if self.has_manager else 0.0)
         os.close(reads)
 
-    def become_next(self, files: Mapping[str, int], note: Mapping[str, Any]) -> NoReturn:
+    def become_next(self, files: Mapping[str, int], note: HolderNote) -> NoReturn:
         """Becomes another process of the same command line, which has the same child and descriptors. OSError if that
         cannot be."""
         for file in files.values():
             os.set_inheritable(file, True)
         signal.pthread_sigmask(signal.SIG_BLOCK, CAUGHT)
-        os.environ[HELD] = json.dumps({**note, 'files': files, 'kept': self._kept})
+        os.environ[HELD] = note._replace(files=files, kept=self._kept).spell()
         try:
             os.execv(sys.executable, [sys.executable, *sys.orig_argv[1:]])
         finally:                            # (it has failed)

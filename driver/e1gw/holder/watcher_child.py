@@ -27,7 +27,7 @@ class WatcherChild:
     def pid(self) -> int:
         return self._child.pid if self._child else 0
 
-    def take_up(self, pid: int) -> None:
+    def adopt_child(self, pid: int) -> None:
         """The process that this one was before has started it."""
         self._child = Child(pid, self._loop, self._on_exit)
 
@@ -37,7 +37,7 @@ class WatcherChild:
             return
         self._restarts = self._restarts.with_one(now)
         try:
-            self.take_up(os.posix_spawn(self._words[0], self._words, {**os.environ, STARTED_BY: str(os.getpid())},
+            self.adopt_child(os.posix_spawn(self._words[0], self._words, {**os.environ, STARTED_BY: str(os.getpid())},
                                         setsigmask=[], setsigdef=[signal.SIGPIPE]))
         except OSError as fault:
             log_line(Severity.ERROR, f'e1gw-watch is not started: {words_of_fault(fault, self._words[0])}')

@@ -11,13 +11,13 @@ from collections import Counter
 from contextlib import contextmanager, suppress
 from dataclasses import dataclass, field
 from enum import Enum
-from typing import Any, Callable, Collection, Container, Coroutine, Iterable, Iterator, Mapping
+from typing import Callable, Collection, Container, Iterable, Iterator, Mapping
 
 from e1gw_common.answers import DONE, CommandAnswer, refused
 from e1gw_common.faults import words_of_fault
 from e1gw_common.lines import IN_CALL, Line, Role, State, circuit_words
 from e1gw_common.session import CIRCUITS, Command, CommandRefusal
-from e1gw_common.tasks import Tasks
+from e1gw_common.tasks import Tasks, Work
 from e1gw_common.writers import put_file
 from ..events import BlockNews, CallsCleared, CircuitsBlocked, Tell
 from .tell_lines import TrunkState
@@ -121,7 +121,7 @@ class BlockWatch:
     """Sees to these circuits. `give` gives a command and returns its answer; `tell` reports."""
 
     def __init__(self, kept: KeptBlocks, lines: TrunkState,
-                 give: Callable[[int, Command], Coroutine[Any, Any, CommandAnswer]], tell: Tell) -> None:
+                 give: Callable[[int, Command], Work[CommandAnswer]], tell: Tell) -> None:
         self.kept, self._state, self._give, self._tell = kept, lines, give, tell
         self._busy, self._blocks = Counter[int](), Tasks()
 
@@ -138,7 +138,7 @@ class BlockWatch:
         finally:
             self._busy[circuit] -= 1
 
-    def look(self) -> None:
+    def block_due(self) -> None:
         """To be called at each change and now and then: blocks what is to be blocked, and tells what has changed."""
         if self.kept.now.circuits and self._state.live:
             self.kept.now, blocks, news = self.kept.now.block_next(self._state.lines, +self._busy)
@@ -155,7 +155,7 @@ class BlockWatch:
         finally:
             self._busy[n] -= 1
         if is_done:
-            self.look()
+            self.block_due()
 
     def _report(self, news: News) -> None:
         for what, circuits in news.items():
@@ -174,10 +174,10 @@ class BlockWatch:
         if ends:
             self._tell(CallsCleared('the operator blocks them', tuple(ends)))
             await asyncio.gather(*(self._give(n, command) for n, command in ends.items()))
-        self.look()
+        self.block_due()
         if self._blocks:
             await asyncio.wait(self._blocks, timeout=PATIENCE)
-        self.look()
+        self.block_due()
         left = circuit_words(self.kept.now.not_yet_blocked(circuits))
         told += [f'blocking, until their calls have ended: circuits {left}'] * bool(left)
         return DONE._replace(told=(*told,))

@@ -48,7 +48,7 @@ class CardWatch:
     def as_told(self) -> int:
         return int(self._told)
 
-    def look(self, span: int) -> None:
+    def read_alarms(self, span: int) -> None:
         """Asks for this span, and tells which alarms have changed; 0 is none. Why it cannot is said once."""
         if not span:
             return self.close()

@@ -5,10 +5,10 @@ What is done follows from how the lines stand, and of a circuit to which one was
 had been seized then. That is noted: the next watcher, and the next program, go on from it."""
 from __future__ import annotations
 
-from typing import Any, Callable, Coroutine, Iterable, Mapping
+from typing import Callable, Iterable, Mapping
 
 from e1gw_common.lines import IN_CALL, Line
-from e1gw_common.tasks import Tasks
+from e1gw_common.tasks import Tasks, Work
 from .tell_lines import TrunkState
 
 
@@ -22,7 +22,7 @@ class CodecWatch:
     """Sees to these. `give` gives a circuit a codec and a payload type, unless it is busy. `note` has `given` noted for
     the next watcher."""
 
-    def __init__(self, state: TrunkState, give: Callable[[int, str, int], Coroutine[Any, Any, object]],
+    def __init__(self, state: TrunkState, give: Callable[[int, str, int], Work[object]],
                  is_busy: Callable[[int], bool], note: Callable[[], None]) -> None:
         self.given = dict[int, int]()           # (see there)
         self._state, self._give, self._is_busy, self._note, self._tasks = state, give, is_busy, note, Tasks()
@@ -34,7 +34,7 @@ class CodecWatch:
             self.given[circuit] = line.seizures
             self._note()
 
-    def look(self) -> None:
+    def restore_codecs(self) -> None:
         """To be called at each change and now and then."""
         if self._state.live:
             for n in codecs_over(self._state.lines.values(), self.given):

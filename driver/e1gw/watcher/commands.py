@@ -59,7 +59,7 @@ class ControlPeer:
     follows: bool = False
     last: float = field(default_factory=time.monotonic)
 
-    def tell(self, line: str) -> None:
+    def send_line(self, line: str) -> None:
         """Sends a line; nothing to one who is gone."""
         if not self.writer.transport.is_closing():
             self.writer.write(f'{line}\n'.encode())
@@ -68,7 +68,7 @@ class ControlPeer:
 
     def turn_away(self) -> None:
         """Closes the connection for another client, and tells why, if that goes at once."""
-        self.tell(json_line(WatchEnded('control', FULL)) if self.follows else f'closed: {FULL}')
+        self.send_line(json_line(WatchEnded('control', FULL)) if self.follows else f'closed: {FULL}')
         if self.writer.transport.get_write_buffer_size():
             self.writer.transport.abort()
         else:
@@ -174,7 +174,7 @@ class CommandServer:
         if fault := trunk.blocks.refusal(circuit, command) or outage:
             trunk.count(circuit, name, fault)
             return refused(fault).lines(front)
-        return (await trunk.give(circuit, command)).lines(front)
+        return (await trunk.give_command(circuit, command)).lines(front)
 
     async def _obey_codec(self, words: list[str]) -> str:
         trunk = self._trunk

@@ -194,7 +194,7 @@ class FeedServer:
     def _send_news(self, log: FolderReader, writer: asyncio.StreamWriter, now: float) -> bool:
         """Sends what the log has now; whether that is anything. EOFError if a part of it was written over."""
         self._say_blocks(writer)
-        news = log.look()
+        news = log.read_news()
         for each in news:
             if isinstance(each, LogBegun):
                 raise EOFError('it is too far behind')
@@ -209,14 +209,14 @@ class FeedServer:
             self._due = now + PULSE
         return bool(news)
 
-    async def _finish(self, writer: asyncio.StreamWriter, leaves: asyncio.Future[Any]) -> None:
+    async def _finish(self, writer: asyncio.StreamWriter, leaves: asyncio.Future[None]) -> None:
         """The program has ended, and all of its log is sent."""
         writer.write(PIECE.pack(time.monotonic(), YOURS if self.hands_over else END))
         if self.hands_over:
             return await self._wait_for_takeover(leaves)
         await asyncio.wait([leaves], timeout=PATIENCE)
 
-    async def _wait_for_takeover(self, leaves: asyncio.Future[Any]) -> None:
+    async def _wait_for_takeover(self, leaves: asyncio.Future[None]) -> None:
         """Until the standby carries the trunk, or has left, or is silent: it says each moment that it is about to."""
         left, said = ANSWERS, self._said
         while left and not (self.is_carried or leaves.done()):

@@ -132,17 +132,17 @@ class HeldTrunk(WatchedTrunk):
 
     def _said_line(self, note: LineNote | None) -> SaidLine:
         """What is said of the line that the holder has now."""
-        return SaidLine(self._places.said, self._places.satop, self.state.words, note, self._tell)
+        return SaidLine(self._places.said_path, self._places.satop, self.state.words, note, self._tell)
 
     # ---- looks ----
 
-    def look(self) -> None:
+    def follow_holder(self) -> None:
         """A few times a second: what the holder says, and the program."""
         with suppress(FileNotFoundError):
             self._look_at_holder()
         self._reader.log.follow_next(self._reader.read)
-        self._line.look()
-        self._card.look(self.state.span)
+        self._line.take_lines()
+        self._card.read_alarms(self.state.span)
 
     def _look_at_holder(self) -> None:
         with open(self._places.holder, 'rb') as file:
@@ -183,7 +183,7 @@ class HeldTrunk(WatchedTrunk):
         taken since."""
         reader, session = self._reader, self._session if seconds else self.session()
         if session != self._session:
-            with connected(self._places.tell) as line:
+            with connected(self._places.tell_path) as line:
                 told = await place_told(line)
             reader.log.follow_next(reader.read)     # (its folder may have been made again)
             for _ in range(2):
@@ -270,10 +270,10 @@ class HeldTrunk(WatchedTrunk):
     # ---- what is asked ----
 
     async def request_end(self) -> CommandAnswer:
-        return await ask(self._places.hold, 'quit')
+        return await ask(self._places.hold_path, 'quit')
 
     async def reload(self, *how: str) -> CommandAnswer:
-        return await ask(self._places.hold, ' '.join(['reload', *how]))
+        return await ask(self._places.hold_path, ' '.join(['reload', *how]))
 
     async def change_role(self, word: str) -> CommandAnswer:
         return await self.pair.change(word) if self.pair else refused('there is no other machine (--feed, --fed-from)')

@@ -114,14 +114,14 @@ class EventReaders:
         if not self._writers:
             self._last = (await self._fresh()).parts
         self._writers[writer] = None
-        self._telling = self._telling or asyncio.create_task(self._tell())
+        self._telling = self._telling or asyncio.create_task(self._send_changes())
         writer.write(f'{PageAnswer(b"", "text/event-stream").head()}\r\n'.encode() + message_of(self._last))
         try:
             await reader.read(1)
         finally:
             self._writers.pop(writer, None)
 
-    async def _tell(self) -> None:
+    async def _send_changes(self) -> None:
         try:
             while self._writers:
                 await asyncio.sleep(TOLD)

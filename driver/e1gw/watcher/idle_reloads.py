@@ -42,7 +42,7 @@ class IdleReloadWatch:
         """The circuits."""
         return self._trunk.facts().waiting
 
-    def look(self, now: float) -> None:
+    def reload_due(self, now: float) -> None:
         """To be called now and then."""
         states = [self._state.lines[n].state for n in self.waiting()]
         if self._state.live and self._reloads.is_due(now, states):

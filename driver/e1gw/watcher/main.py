@@ -26,7 +26,7 @@ from e1gw_common.unix_listener import CannotListen
 from e1gw_common.writers import hold_descriptors
 from ..clearing import on_loss_of
 from ..holder_state import STARTED_BY, TrunkPlaces
-from ..lock import InUse, hold, is_at
+from ..lock import InUse, is_at, take_lock
 from .held import HeldTrunk, state_of, wait_of
 from .journal import ServiceJournal
 from .memo import WatchNote, blocks_told, note_in
@@ -63,7 +63,7 @@ class WatchLock:
         if self._file >= 0 and is_at(self._file, self._path):
             return True
         try:
-            file = hold(self._path)
+            file = take_lock(self._path)
         except OSError:
             return False
         if self._file >= 0:
@@ -91,18 +91,18 @@ class Watcher:
         self._make_folder()
         asked, note, program = self._asked, self._noted(), program_of(self._asked.program, '--unproved')
         self._trunk = trunk = HeldTrunk(self._places, state, program, asked.config,
-                                        lambda event: watch.tell(event), note.held if note else None)
+                                        lambda event: watch.report_event(event), note.held if note else None)
         wants = recording_of(asked, wait_of(state.words))
         self._reader = reader = LogReader(self._places.log, asked.gap / 1000, wants, self.note, trunk.config_octets)
         trunk.set_reader(reader)
         self._watch = watch = TrunkWatch(watched_of(asked, program), trunk)
         if note:
-            self._take_up(note)
-        reader.take_up(note.read if note else ReadingNote(), note.recording if note else None)
+            self._restore_note(note)
+        reader.restore_note(note.read if note else ReadingNote(), note.recording if note else None)
         watch.client.changed = self.note
         reader.found, reader.told = watch.on_clock_finding, lambda: watch.client.lines.place
         reader.took, reader.missed = watch.counts.take_records, watch.counts.skip
-        if pair := open_pair(asked, trunk, watch.tell):
+        if pair := open_pair(asked, trunk, watch.report_event):
             trunk.set_pair(pair)
         return True
 
@@ -116,13 +116,13 @@ class Watcher:
         self._notes = NoteFiles(self._places.watch)
         return note_in(self._notes.read())
 
-    def _take_up(self, note: WatchNote) -> None:
+    def _restore_note(self, note: WatchNote) -> None:
         """What was told is not told again."""
         watch = self._watch
         watch.client.restore_told(note.told)
         watch.restore_shown(note.shown)
         if note.calls:
-            watch.take_up(note.calls)
+            watch.restore_note(note.calls)
         kept = watch.blocks.kept
         kept.now = blocks_told(kept.now, note.blocks)
         watch.codecs.given = note.codecs
@@ -139,7 +139,7 @@ class Watcher:
             except FileNotFoundError:           # (the trunk has ended, or its folder is made again)
                 self._make_folder()
 
-    def look(self) -> None:
+    def follow_trunk(self) -> None:
         """A few times a second."""
         try:
             self._lock.take()
@@ -155,14 +155,14 @@ class Watcher:
             self._is_over = True
             logger.info('ends: the trunk has ended')
             return self._ending.set()
-        self._trunk.look()
+        self._trunk.follow_holder()
         if self._trunk.pair:
-            self._trunk.pair.look()
+            self._trunk.pair.follow_role()
 
     async def run(self) -> None:
         """Until the end."""
         await self._watch.open()
-        with run_periodically(LOOK, self.look, 'the look at the holder'), \
+        with run_periodically(LOOK, self.follow_trunk, 'the look at the holder'), \
                 run_periodically(NOTED, self.note, 'the note'):
             works = [asyncio.create_task(work) for work in (self._reader.run(), self._watch.run())]
             await self._ending.wait()
@@ -195,7 +195,7 @@ async def watch_trunk(asked: argparse.Namespace) -> int:
         """That which has started this one may end: the next one starts another."""
         if holder and os.getppid() != holder:
             ending.set()
-    with run_periodically(LOOK, lambda: notifier.tell('WATCHDOG=1'), 'the sign of life'), \
+    with run_periodically(LOOK, lambda: notifier.notify('WATCHDOG=1'), 'the sign of life'), \
             run_periodically(LOOK, look_at_holder, 'the look'):
         if not (holder or lock.take()):
             logger.info('no trunk at %s: e1gw-trunk is waited for', places.folder)
@@ -203,7 +203,7 @@ async def watch_trunk(asked: argparse.Namespace) -> int:
             await wait_any(LOOK, ending)
         watcher = Watcher(asked, places, lock, ending)
         if await watcher.begin():
-            notifier.tell('READY=1')
+            notifier.notify('READY=1')
             await watcher.run()
         return watcher.status
 

@@ -57,7 +57,7 @@ class OpenLog:
         """What is new, and when that was written; nothing was `written` since."""
         def reads(files: LogFiles) -> tuple[list[LogNews], float]:
             assert self.reader
-            its = self.reader.look()
+            its = self.reader.read_news()
             return its, files.written(self.reader.number) if its else written
         return self._or_default(reads, (list[LogNews](), written))
 

@@ -46,7 +46,7 @@ class TrunkPair:
     def start(self, host: str, port: int) -> None:
         """Begins to feed, and to follow the holder."""
         self._tasks.begin(self._listen(host, port))
-        self.look()
+        self.follow_role()
 
     async def _listen(self, host: str, port: int) -> None:
         """Feeds who connects there, once it can be."""
@@ -63,12 +63,12 @@ class TrunkPair:
 
     # ---- the role that the holder has ----
 
-    def look(self) -> None:
+    def follow_role(self) -> None:
         """A few times a second: follows that role, unless it is changed here in this moment."""
         if not self._change or self._change.done():
-            self._follow_role()
+            self._become_role()
 
-    def _follow_role(self) -> None:
+    def _become_role(self) -> None:
         if not self._trunk.stands_by():
             if self._follows:
                 self._leave_standby()
@@ -144,7 +144,7 @@ class TrunkPair:
             logger.error('%s: %s', word, words_of_fault(fault))
             answer = refused(words_of_fault(fault))
         with reporting_failures('the role of the trunk'):
-            self._follow_role()
+            self._become_role()
         return answer
 
     async def _take_trunk(self) -> CommandAnswer:
@@ -189,11 +189,11 @@ class TrunkPair:
 
     async def _ask_holder(self, words: str) -> CommandAnswer:
         """What the holder answers. What it does up to then is told at once: the trunk's addresses come by that."""
-        answer = asyncio.ensure_future(ask(self._trunk.places().hold, words, PATIENCE))
+        answer = asyncio.ensure_future(ask(self._trunk.places().hold_path, words, PATIENCE))
         try:
             while not answer.done():
                 await asyncio.wait([answer], timeout=TICK)
-                self._trunk.look()
+                self._trunk.follow_holder()
             return answer.result()
         finally:
             answer.cancel()

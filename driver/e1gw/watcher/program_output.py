@@ -88,12 +88,12 @@ class SaidLine:
         self._satop = SaidFile(satop, note.satop if note else SaidNote())
         self.crc4, self.slots = Crc4() if '--crc4' in words else None, Slots() if '--slots' in words else None
         if note and note.crc4 and self.crc4:
-            self.crc4.take_up(note.crc4)
+            self.crc4.restore_note(note.crc4)
         if note and note.slots and self.slots:
-            self.slots.take_up(note.slots)
+            self.slots.restore_note(note.slots)
         self._seen, self._tell = note.seen if note else SatopSeen(), tell
 
-    def look(self) -> None:
+    def take_lines(self) -> None:
         """Takes what was said since."""
         for line in self._program.read_lines():
             if line is not None:
@@ -128,7 +128,7 @@ class SaidLine:
 
     def _unheard(self) -> int:
         """Datagrams that no socket takes. (Those of a far end at this machine may be our own.)"""
-        _, far, *_ = begun_in(self._satop.path).get('words') or ('', '')
+        _, far, *_ = begun_in(self._satop.path).words or ('', '')
         return unheard() if far and not is_here(far) else 0
 
     def on_close(self) -> None:

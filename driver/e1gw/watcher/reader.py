@@ -75,7 +75,7 @@ class LogReader:
 
     # ---- the log ----
 
-    def take_up(self, read: ReadingNote, left: RecordingNote | None, files: LogFiles | None = None) -> None:
+    def restore_note(self, read: ReadingNote, left: RecordingNote | None, files: LogFiles | None = None) -> None:
         """Begins, where the watcher before this one was, with the log that it has left, and with its recording if that
         was of the same and the log has what it lacks."""
         self.log.place, self.octets, self._written = read.place, read.octets, read.written
@@ -187,14 +187,14 @@ class LogReader:
 
     async def run(self) -> None:
         """Until it is cancelled. Whatever fails is begun again."""
-        with run_periodically(TICK, self.look, 'the reading of the log'):
+        with run_periodically(TICK, self.read_at_tick, 'the reading of the log'):
             await self._retry_recording()
 
-    def look(self) -> None:
+    def read_at_tick(self) -> None:
         """To be called each TICK, and by nobody else: reads what there is, and looks at the flow. (A look between two
         of these would find octets that are late, or early.)"""
         if self.read():
-            for finding in self.clock.look(time.monotonic()):
+            for finding in self.clock.find_changes(time.monotonic()):
                 if finding.what == 'gap' and self._recording and self._begun is not None:
                     first = max(self.octets - finding.octets, self._begun + 1)      # (what was before has its own file)
                     self._recording.slip(first, round(finding.value, 3))

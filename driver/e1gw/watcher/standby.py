@@ -6,6 +6,7 @@ Each watcher is fed anew: only who was there knows how the clocks differ."""
 from __future__ import annotations
 
 import asyncio
+import ctypes
 import fcntl
 import glob
 import logging
@@ -36,6 +37,7 @@ MOST_AGE = 60.0             # seconds after which a state is of no use
 ONES = trunk_record(b'\xff' * MULTIFRAME)
 MANY = RECORDS_ROOM // 4 // len(ONES)   # of them that are put at once
 FED = 'fed-'                # how folders begin of what is fed and has not caught up
+AT_FDCWD, RENAME_EXCHANGE = -100, 2      # of renameat2(2): paths of this process; both are exchanged
 NO_TRUNK = 'it carries no trunk, or this address is not its --fed-from'
 NOTHING_KNOWN = 'nothing is known'
 NO_CERTIFICATE = 'it refuses the certificate of this machine'
@@ -148,13 +150,18 @@ class FedLog:
         return zero + self.octets // size & 0xffff if size else None
 
     def move_to(self, folder: str) -> None:
-        """It is in this folder from now on, in place of what that has."""
-        aside = tempfile.mkdtemp(prefix=FED, dir=os.path.dirname(folder))
-        with suppress(FileNotFoundError):
-            os.rename(folder, aside)
-        os.rename(self.folder, folder)
-        self.folder = folder
-        shutil.rmtree(aside, ignore_errors=True)
+        """It is in this folder from now on, in place of what that has. That is one step: a holder that takes the trunk
+        meanwhile finds one of the two, and so does the next watcher if this one dies."""
+        before, self.folder = self.folder, folder
+        try:
+            exchange_folders(before, folder)
+        except FileNotFoundError:           # (there is none yet, or the holder has taken it)
+            os.rename(before, folder)
+        except OSError:                     # (some file systems cannot: there it is two steps)
+            os.rename(folder, aside := tempfile.mkdtemp(prefix=FED, dir=os.path.dirname(folder)))
+            os.rename(before, folder)
+            before = aside
+        shutil.rmtree(before, ignore_errors=True)
 
     def close(self) -> None:
         """It is known no more. (The holder may have taken it, and another one may be in its place.)"""
@@ -163,6 +170,15 @@ class FedLog:
         with suppress(OSError):
             if os.path.samestat(os.stat(self.folder), self._is):
                 shutil.rmtree(self.folder, ignore_errors=True)
+
+
+def exchange_folders(one: str, other: str) -> None:
+    """Gives each of two folders the name of the other one, by one call of renameat2(2), which Python does not have.
+    FileNotFoundError if one is not there, another OSError if the file system cannot."""
+    libc = ctypes.CDLL(None, use_errno=True)
+    if libc.renameat2(AT_FDCWD, os.fsencode(one), AT_FDCWD, os.fsencode(other), RENAME_EXCHANGE):
+        number = ctypes.get_errno()
+        raise OSError(number, os.strerror(number), other)
 
 
 async def last_word(reader: asyncio.StreamReader) -> int:

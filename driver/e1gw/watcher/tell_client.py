@@ -51,14 +51,14 @@ class TellClient:
 
     def __init__(self, trunk: WatchedTrunk, name: str, tell: Tell, counts: DatagramCounts,
                  put: Callable[[str], None]) -> None:
-        self._trunk, self.tell = trunk, tell
+        self._trunk, self.report_event = trunk, tell
         self._config = read_config(trunk.config_path())
         self.lines = TrunkState(self._config, report_failure(self._on_event, WATCH), counts, time.monotonic,
                                 report_failure(self._on_all_told, WATCH))
         self.calls = CallLog(name, self.lines.lines, counts, put, self._day)
         self.is_followed: Callable[[], bool] = lambda: False
         self.start = time.monotonic()
-        self.naming = CallNames(note_of(trunk.places().tell))
+        self.naming = CallNames(note_of(trunk.places().tell_path))
         self._connected = dict.fromkeys(BOTH, False)
         self._stands: bool | None = None        # whether it is connected with the program, as was told
         self._stood: bool | None = None         # .. by the process before this one
@@ -76,10 +76,10 @@ class TellClient:
         self.waiting: Callable[[], list[str]] = list    # lines of calls that may not be written yet
         self.lines.on_disconnect()
 
-    def take_up(self, note: CallsNote) -> None:
+    def restore_note(self, note: CallsNote) -> None:
         """Goes on with the calls of the watcher before this one."""
         self.calls.life = self.naming.known(self.lines.lines)
-        self.calls.take_up(note)
+        self.calls.restore_note(note)
         self.lines.place, self.lines.begun, self._at, self._is_known = note.place, note.begun, note.at, True
 
     async def _catch_up(self, last: int) -> None:
@@ -102,7 +102,7 @@ class TellClient:
             self._again = self.lines
         (self.lines.place, self._at), self._is_known, self.lines.known = self._until, True, True
         self.calls.set_counts(self.lines.counts)
-        self.naming.look(self.lines.lines)
+        self.naming.note_states(self.lines.lines)
         self._note_calls()
 
     def _replay_missed(self, missed: MissedReports) -> None:
@@ -124,7 +124,7 @@ class TellClient:
         place = self._again.place
         if self._again is self.lines:
             return 0.0
-        known = [(self.lines.place, self._at), *self._trunk.starts()]
+        known = [(self.lines.place, self._at), *self._trunk.program_starts()]
         octet, at = self._until if place > self._trunk.start_octet() else max(
             (each for each in known if each[0] < place), default=known[0])
         return max(0.0, time.time() - at - (place - octet) / OCTETS_A_SECOND)
@@ -135,18 +135,18 @@ class TellClient:
 
     def _on_event(self, event: Placed) -> None:
         """The program has told a change of the lines or the alarms."""
-        self.tell(event)
+        self.report_event(event)
         if isinstance(event, LineChanged):
             self._has_changed = True
             if self.lines.live:
-                self.naming.look(self.lines.lines)
+                self.naming.note_states(self.lines.lines)
 
     def _note_calls(self) -> None:
         """Has the next service know of changes, and of the lines of calls that have ended, which are written then."""
         if self._has_changed or self.calls.lines:
             self._has_changed = False
             self.changed()
-        self.calls.give()
+        self.calls.put_lines()
 
     def set_connected(self, what: str, on: bool, why: str = '') -> None:
         """Whether there is a connection to one of the program's sockets. At first it may be to come."""
@@ -158,7 +158,7 @@ class TellClient:
             stood, self._stands, self._stood = self._stood, has, None
             if stood is not has:
                 self._since, why = time.time(), self._trunk.facts().fault or why
-                self.tell(Connected('program') if has else Disconnected('program', why))
+                self.report_event(Connected('program') if has else Disconnected('program', why))
 
     def teller(self) -> object:
         """The connection at which changes are told; None if there is none."""
@@ -177,7 +177,7 @@ class TellClient:
                 line.setblocking(False)
                 session = self._trunk.session()
                 await self._trunk.know_place()
-                line.connect(self._trunk.places().tell)
+                line.connect(self._trunk.places().tell_path)
                 place = self._trunk.start_octet() + await place_told(line)
                 if self._trunk.session() != session:
                     raise OSError(0, 'another program carries the trunk')
@@ -197,7 +197,7 @@ class TellClient:
         self._line = None
         self.lines.on_disconnect()
         self.calls.on_disconnect()
-        self.set_connected('reports', False, f'{self._trunk.places().tell}: {self._why}')
+        self.set_connected('reports', False, f'{self._trunk.places().tell_path}: {self._why}')
 
     def read_lines(self, line: socket.socket, most: int) -> bool:
         """Takes what was told, at once, so that nothing behind it is taken before; whether more may follow."""
@@ -275,10 +275,10 @@ class TellClient:
         before = self.flow
         self.flow, change = before.update(self.place(), now, self._line is not None)
         if change is FlowChange.FLOWS:
-            self.tell(Flows(round(now - (before.stood or now), 3)))
+            self.report_event(Flows(round(now - (before.stood or now), 3)))
         elif change is FlowChange.STALLED:
             self.set_connected('reports', True)
-            self.tell(Stalled(flow.QUIET))
+            self.report_event(Stalled(flow.QUIET))
 
     def place(self) -> int:
         """Octets of the trunk up to now. (Its log may have ended, and it goes on.)"""
@@ -288,7 +288,7 @@ class TellClient:
         """Why no seizure can reach the other end, or None."""
         return 'the trunk is stalled' if self.flow.is_stalled else self._trunk.outage() or self.lines.outage()
 
-    def told(self) -> ToldStatus:
+    def told_status(self) -> ToldStatus:
         """What is known of the trunk by what was told."""
         stands = bool(self._stands)
         return replace(self.lines.status(), octets=self.place(), life=self.naming.life or None, trunk_up=stands,

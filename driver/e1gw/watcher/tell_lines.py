@@ -26,7 +26,7 @@ class TrunkState:
 
     def __init__(self, config: TrunkConfig, tell: Callable[[Placed], None], counts: DatagramCounts,
                  clock: Callable[[], float] = time.monotonic, began: Callable[[], None] = lambda: None) -> None:
-        self.law, self.lines, self.tell = config.law, config.lines(), tell
+        self.law, self.lines, self.report_event = config.law, config.lines(), tell
         self.counts, self.began, self._clock = counts, began, clock
         self.commanded: Callable[[bytes], None] = lambda record: None   # called with each C and K record that was given
         self.place = 0                      # octets of the trunk so far
@@ -83,7 +83,7 @@ class TrunkState:
 
     def replay_until(self, place: int, clock: Callable[[], float]) -> TrunkState:
         """What is told of these lines, from this place on, by another one that tells, with counts of its own."""
-        again = TrunkState(TrunkConfig(), self.tell, DatagramCounts(), clock)
+        again = TrunkState(TrunkConfig(), self.report_event, DatagramCounts(), clock)
         again.lines, again.alarms, again.remote, again.losses = self.lines, self.alarms, self.remote, self.losses
         again.known = self.known
         again.begin(place)
@@ -131,7 +131,7 @@ class TrunkState:
             lost = bool(int(bit))
             if self.known and lost is not self.alarms[what]:
                 self.losses[what] += lost
-                self.tell(AlignmentLost(what, self.place) if lost else AlignmentFound(what, self.place))
+                self.report_event(AlignmentLost(what, self.place) if lost else AlignmentFound(what, self.place))
             self._alarm(AlarmChanged, self.alarms, what, lost)
         for what, bit in (Alignment.FRAME, far_frame), (Alignment.MULTIFRAME, far_multiframe):
             self._alarm(RemoteAlarmChanged, self.remote, what, bool(int(bit)))
@@ -139,7 +139,7 @@ class TrunkState:
     def _alarm(self, kind: type[AlarmChanged], alarms: dict[Alignment, bool], what: Alignment, on: bool) -> None:
         if alarms[what] is not on:
             alarms[what] = on
-            self.tell(kind(what, on, self.place))
+            self.report_event(kind(what, on, self.place))
 
     def _counts(self, circuit: str, accepted: str, _: str, jitter: str, *refused: str) -> None:
         told = ToldCounts(int(accepted), int(jitter), tuple(map(int, refused)))
@@ -169,7 +169,7 @@ class TrunkState:
             return line.begin(State(state), self._clock())
         if (codec, int(payload_type)) != (line.codec, line.payload):
             line.codec, line.payload = codec, int(payload_type)
-            self.tell(CodecChanged(line.circuit, codec, line.payload, self.place))
+            self.report_event(CodecChanged(line.circuit, codec, line.payload, self.place))
         if state != line.state:
             self._change_state(line, State(state))
 
@@ -182,4 +182,4 @@ class TrunkState:
         if line.role is Role.OUTGOING and before is State.IDLE and state in IN_CALL and not commanded:
             line.seizures += 1          # (of which nobody was told)
         line.count_change(before, self._clock())
-        self.tell(LineChanged(line.circuit, line.role, before, state, self.place, None if self.live else True))
+        self.report_event(LineChanged(line.circuit, line.role, before, state, self.place, None if self.live else True))

@@ -39,7 +39,7 @@ class WatchedPlaces(Protocol):
     def control(self) -> str: ...
 
     @property
-    def tell(self) -> str: ...
+    def tell_path(self) -> str: ...
 
 
 @dataclass(frozen=True)
@@ -130,7 +130,7 @@ class WatchedTrunk(ABC):
         """Gaps and the rate of its octets."""
         return self.reader.clock.status()
 
-    def starts(self) -> Sequence[tuple[int, float]]:
+    def program_starts(self) -> Sequence[tuple[int, float]]:
         """The octets with which programs began, and the time of day."""
         return self.reader.starts
 
@@ -142,7 +142,7 @@ class WatchedTrunk(ABC):
         with suppress(TimeoutError):
             async with asyncio.timeout(seconds):
                 for _ in range(ANSWERS if reader.has_missed else 0):
-                    with connected(self.places().tell) as line:
+                    with connected(self.places().tell_path) as line:
                         place = self.start_octet() + await place_told(line)
                     for _ in range(2):          # (one finds nothing while a head is written)
                         reader.read()

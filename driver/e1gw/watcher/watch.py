@@ -95,19 +95,19 @@ class TrunkWatch:
         self.wants, self.trunk, self._loop = wants, trunk, asyncio.get_running_loop()
         self._is_over = True                    # the trunk has ended, once this one does
         self.ended: dict[str, str | None] = dict.fromkeys(BESIDE)
-        self._restarts = Resyncs(self.restart, self.tell)
+        self._restarts = Resyncs(self.restart, self.report_event)
         self.counts = DatagramCounts(report_failure(self._restarts.count_answers, WATCH))
-        self._deaf = DeafCalls(self.tell)
-        self.client = TellClient(trunk, wants.name, self.tell, self.counts, self._put_call)
+        self._deaf = DeafCalls(self.report_event)
+        self.client = TellClient(trunk, wants.name, self.report_event, self.counts, self._put_call)
         self._lines = self.client.lines
         self._program = ProgramConnection(lambda: trunk.places().control, self.client.set_connected, self.client.wake,
                                           lambda: trunk.facts().fault)
         self._lines.commanded = report_failure(self._program.on_record, WATCH)
         self._events, self._ended_calls = ReadEvents(), deque[str](maxlen=LAST)
-        self.pages = TrunkPages(self.known, self.client.take_now, list(self._lines.lines.values()),
+        self.pages = TrunkPages(self.known_status, self.client.take_now, list(self._lines.lines.values()),
                                 PageNotes(self._events.last, self._ended_calls, wants.kept))
         self._server = CommandServer(self)
-        self.blocks = BlockWatch(trunk.blocks(), self._lines, self.give, self.tell)
+        self.blocks = BlockWatch(trunk.blocks(), self._lines, self.give_command, self.report_event)
         self._reloads = IdleReloadWatch(trunk, self._lines)
         self.codecs = CodecWatch(self._lines, self.give_codec, lambda n: self.blocks.is_busy(n)
                                  or n in self._reloads.waiting(), lambda: self.client.changed())
@@ -135,7 +135,7 @@ class TrunkWatch:
         self.count(circuit, words, answer.short)
         return answer
 
-    async def give(self, circuit: int, command: Command) -> CommandAnswer:
+    async def give_command(self, circuit: int, command: Command) -> CommandAnswer:
         return await self.command(command_record(circuit, command), circuit, command.word)
 
     async def give_codec(self, circuit: int, codec: str, payload: int) -> CommandAnswer:
@@ -146,7 +146,7 @@ class TrunkWatch:
 
     def count(self, circuit: int, words: str, text: str) -> None:
         self._done[words.split()[0], text] += 1
-        self.tell(CommandGiven(circuit, words, text))
+        self.report_event(CommandGiven(circuit, words, text))
 
     def clear_all(self, why: str, blocks: bool = False) -> None:
         """Ends all calls that this end can end: clear at the outgoing end, clear-back at the incoming one. `blocks`
@@ -157,10 +157,10 @@ class TrunkWatch:
             if blocks and line.role is Role.INCOMING and line.state is State.IDLE:
                 command = Command.BLOCK
             if command:
-                self._tasks.begin(self.give(n, command))
+                self._tasks.begin(self.give_command(n, command))
                 cleared += [n] * (command is not Command.BLOCK)
         if cleared:
-            self.tell(CallsCleared(why, tuple(cleared)))
+            self.report_event(CallsCleared(why, tuple(cleared)))
 
     def restart(self, circuits: list[int]) -> None:
         """Gives open circuits the codec that they have, which restarts their playout."""
@@ -173,9 +173,9 @@ class TrunkWatch:
         with contextlib.suppress(NoAnswer):     # (the next program may have another configuration)
             await self._program.ask(record, lambda: None, waits=False)
 
-    def take_up(self, note: CallsNote) -> None:
+    def restore_note(self, note: CallsNote) -> None:
         """Goes on with the calls of the watcher before this one, some of whose lines it may not have written."""
-        self.client.take_up(note)
+        self.client.restore_note(note)
         for line in note.lines:
             if self._calls and self.wants.calls and not has_line(self.wants.calls, line):
                 self._calls.put(line)
@@ -192,7 +192,7 @@ class TrunkWatch:
         self._events.restore((ReadEvent(*each) for each in note.last),
                            {key: ReadEvent(words, at) for key, words, at in note.alarms})
         self._ended_calls.extend(note.ended)
-        self._deaf.take_up(note.deaf)
+        self._deaf.restore_causes(note.deaf)
         self._resyncs = note.resyncs
         self._done.update({(command, answer): count for command, answer, count in note.commands})
         self.trunk.reader.clock.rate.is_wrong = WrongRate.name in self._events.active_alarms()
@@ -206,15 +206,15 @@ class TrunkWatch:
 
     # ---- reports ----
 
-    def tell(self, event: Event) -> None:
+    def report_event(self, event: Event) -> None:
         """Tells a change to the journal and to all who follow. One that fails takes it from no other."""
         if isinstance(event, LineChanged):
             report_failure(self.trunk.reader.read, WATCH)()        # (what came up to the end of a call is counted)
             event = replace(event, call=self._call_of(event))
-            self._loop.call_soon(self.blocks.look)
+            self._loop.call_soon(self.blocks.block_due)
             if event.state is not State.ANSWERED:
                 self._deaf.forget(event.circuit)
-            self._loop.call_soon(self.codecs.look)
+            self._loop.call_soon(self.codecs.restore_codecs)
         for hears in tell_journal, self._show, self._tell_followers:
             report_failure(hears, WATCH)(event)
 
@@ -232,19 +232,19 @@ class TrunkWatch:
     def _tell_followers(self, event: Event) -> None:
         text = json_line(event, place=self.trunk.place())
         for peer in self._server.followers():
-            peer.tell(text)
+            peer.send_line(text)
         if self._json:
             self._json.put(text)
 
     def on_clock_finding(self, finding: ClockFinding) -> None:
         """What was found of the flow: octets that were lost or came too early, or another rate."""
         if finding.what == 'rate':
-            return self.tell(RateChanged(round(finding.value, 1)))
+            return self.report_event(RateChanged(round(finding.value, 1)))
         if finding.what in ('wrong rate', 'right rate'):
-            return self.tell(WrongRate(finding.what == 'wrong rate', round(100 * finding.value, 2)))
+            return self.report_event(WrongRate(finding.what == 'wrong rate', round(100 * finding.value, 2)))
         seconds, since = round(finding.value, 3), finding.since
         since = since and round(time.time() - time.monotonic() + since, 3)
-        self.tell(Slip(seconds, since) if finding.what == 'gap' else Burst(seconds))
+        self.report_event(Slip(seconds, since) if finding.what == 'gap' else Burst(seconds))
         self._restarts.request(self._lines.open_circuits(), f'{finding.what} of {seconds} s')
 
     def _note(self, what: str, why: str | None) -> None:
@@ -255,18 +255,18 @@ class TrunkWatch:
         """Why something other than the calls has ended, or that it goes on; they go on."""
         self.ended[what] = why
         if why:
-            self.tell(WatchEnded(what, why))
+            self.report_event(WatchEnded(what, why))
         else:
             logger.log(NOTICE, '%s: written again', what)
 
-    def known(self) -> TrunkStatus:
+    def known_status(self) -> TrunkStatus:
         """All that is known."""
         now, facts, client, blocks = time.time(), self.trunk.facts(), self.client, self.blocks.kept.now
         return TrunkStatus(
             name=self.wants.name, version=facts.version, senders=facts.senders, time=round(now, 3),
             uptime=0.0 if facts.fault else round(now - facts.since, 3), fault=facts.fault or None,
-            files=self.wants.files(), told=client.told(), pair=facts.pair, transport=facts.transport, crc4=facts.crc4,
-            clock=client.flow.status(self.trunk.flow()), calls=(*client.calls.open_calls(),),
+            files=self.wants.files(), told=client.told_status(), pair=facts.pair, transport=facts.transport,
+            crc4=facts.crc4, clock=client.flow.status(self.trunk.flow()), calls=(*client.calls.open_calls(),),
             alarms=(*self._events.active_alarms().values(),),
             circuits=tuple(replace(row, blocked=blocks.word(n), deaf=self._deaf.causes.get(n))
                            for n, row in zip(CIRCUITS, self._lines.rows())),
@@ -312,14 +312,14 @@ class TrunkWatch:
             self._tasks.begin(self._reopen_listener(self.wants.control))
         self.client.look_at_flow(now)
         if self._lines.live:
-            self._deaf.look(self._lines.place, self.counts.listen_to({
+            self._deaf.update_hearings(self._lines.place, self.counts.listen_to({
                 n: line.codec for n, line in self._lines.lines.items() if line.state is State.ANSWERED}))
-        self._restarts.look(now, self._lines.place, self._lines.open_circuits(), not self.counts.stale())
-        self.disconnects.look(now)
-        self.blocks.look()
-        self.codecs.look()
-        self._reloads.look(now)
-        self._outages.look(now, self.client.outage())
+        self._restarts.restart_due(now, self._lines.place, self._lines.open_circuits(), not self.counts.stale())
+        self.disconnects.clear_due(now)
+        self.blocks.block_due()
+        self.codecs.restore_codecs()
+        self._reloads.reload_due(now)
+        self._outages.clear_due(now, self.client.outage())
 
     def on_trunk_restart(self) -> None:
         """The trunk goes on behind the end of this one, and so do its calls."""
