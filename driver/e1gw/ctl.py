@@ -31,10 +31,10 @@ from __future__ import annotations
 import argparse
 import os
 import socket
+import stat
 import subprocess
 import sys
 import time
-from pathlib import Path
 from typing import BinaryIO
 
 from e1gw_common.answers import answer_in
@@ -57,7 +57,14 @@ OPTIONS = {'last': ('calls',), 'circuit': ('calls',), 'from': ('calls', 'outages
 
 def path_of(word: str) -> str:
     """The socket that a path or the name of a trunk means."""
-    return word if '/' in word or Path(word).is_socket() else f'{SOCKETS}/{word}/control'
+    return word if '/' in word or is_socket(word) else f'{SOCKETS}/{word}/control'
+
+
+def is_socket(path: str) -> bool:
+    try:
+        return stat.S_ISSOCK(os.stat(path).st_mode)
+    except (OSError, ValueError):
+        return False
 
 
 def trunks_meant(asked: argparse.Namespace) -> list[tuple[str, str]]:

@@ -19,10 +19,10 @@ from e1gw_common.writers import put_file
 from .priority import run_last
 
 UNITS = {'s': 1, 'm': 60, 'h': 3600, 'd': 86400}
-FEWEST, MOST = 12, 120      # files into which the time that is kept is cut
-SHORT = 30.0                # seconds of a file, unless there are so few or so many
-MOST_EARLIER = 3 * MOST     # files of earlier sessions
-MOST_OWN = 4 * MOST         # of this one, whose programs may follow one another soon
+FEWEST, MOST = 12, 360      # files into which the time that is kept is cut
+SHORT = 10.0                # seconds of a file, unless there are so few or so many
+MOST_EARLIER = MOST         # files of earlier sessions
+MOST_OWN = 2 * MOST         # of this one, whose programs may follow one another soon
 MOST_SLIPS = 1000           # that are noted for a file
 RECORDS, STATE = '.e1gw', '.state'
 

@@ -330,6 +330,7 @@ class Facts:
 
     def __init__(self, rows: dict[int, Row] | None = None, last: int | None = None, width: int = MULTIFRAME) -> None:
         self.rows = rows or {n: Row(n) for n in range(1, 31)}
+        self.turned = [*self.rows.values()]         # .. that have columns; others have all in one
         self.last = last
         self.width, self.most = width, MOST             # of a column, and columns
         self.column = 0
@@ -364,7 +365,7 @@ class Facts:
         column = place // self.width
         if column == self.column:
             return
-        for row in self.rows.values():
+        for row in self.turned:
             if not row.cell.is_empty():
                 row.cells[self.column] = row.cell
                 row.cell = Cell()
@@ -373,7 +374,7 @@ class Facts:
         while (self.place - self.start) // self.width >= self.most:
             self._double()
         self.column = column = place // self.width
-        for row in self.rows.values():
+        for row in self.turned:
             row.cell = row.cells.pop(column, row.cell)
 
     def forget(self, start: int) -> None:

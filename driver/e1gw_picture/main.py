@@ -4,8 +4,7 @@ from __future__ import annotations
 import argparse
 import os
 import sys
-import time
-from collections.abc import Callable, Iterator
+from collections.abc import Iterator
 
 from e1gw_common.faults import Parser, checked
 from e1gw_common.frames import raw_words_of
@@ -17,11 +16,9 @@ from .beginning import Begun, begin
 from .capture import merged
 from .facts import Facts
 from .page import draw
-from .reading import SessionReading, rows_of
-from .svg import duration
+from .progress import Progress
+from .reading import SessionReading, facts_of
 
-SOON, EACH = 2.0, 1.0        # seconds until it says how much is read, and between two such lines
-CLEARED = '\r\x1b[K'         # a line of a terminal
 UNITS = {'ms': 0.001, 's': 1.0, 'm': 60.0, 'h': 3600.0, 'd': 86400.0}
 
 ABOUT = '''Draws a session as one page of HTML without scripts or network: the trunk's alarms in both directions, the
@@ -59,49 +56,6 @@ def parser() -> argparse.ArgumentParser:
                        help='when the session began, in UTC')
     words.add_argument('--program', metavar='E1GW', help='the program [default: that of this repository, or e1gw]')
     return words
-
-
-class Progress:
-    """Says how much of the trunk is read if that lasts: on a terminal each second, in place of what was said before,
-    elsewhere once."""
-
-    def __init__(self, session: RecordedSession, is_terminal: bool, now: Callable[[], float] = time.monotonic) -> None:
-        self._files, self._file, self._is_terminal, self._now = session.files, 0, is_terminal, now
-        self._due, self._told = now() + SOON, False
-
-    def octets(self) -> Iterator[bytes]:
-        """The octets of the session."""
-        for self._file, path in enumerate(self._files, 1):
-            yield from RecordedSession([path]).octets()
-
-    def read(self, place: int) -> None:
-        """The session is read up to a place."""
-        if self._now() < self._due or self._told and not self._is_terminal:
-            return
-        self._due, self._told = self._now() + EACH, True
-        words = self.words(place)
-        if self._is_terminal:
-            print(f'{CLEARED}{words}', end='', file=sys.stderr, flush=True)
-        else:
-            print(f'{words}; it goes on', file=sys.stderr, flush=True)
-
-    def words(self, place: int) -> str:
-        """What is said at a place."""
-        where = f', file {self._file} of {len(self._files)}' if len(self._files) > 1 else ''
-        return f'e1gw-picture: {duration(place)} of the trunk read{where}'
-
-    def end(self) -> None:
-        print(CLEARED * (self._told and self._is_terminal), end='', file=sys.stderr)
-
-
-def facts_of(begun: Begun, last: int | None = None) -> Facts:
-    """The facts known of a session before it is read."""
-    session, place = begun.session, begun.place
-    facts = Facts(rows_of(read_config(begun.config), begun.session.wait), last)
-    facts.slips = session.slips and [(place + at, seconds) for at, seconds in session.slips]
-    facts.breaks = [each.shifted(place) for each in session.breaks]
-    facts.begin = None if session.begin is None else session.begin - place / OCTETS_A_SECOND
-    return facts
 
 
 def captured(options: argparse.Namespace, begun: Begun, octets: Iterator[bytes]) -> tuple[Facts, Iterator[bytes]]:

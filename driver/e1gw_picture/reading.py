@@ -5,9 +5,10 @@ import re
 from collections import deque
 from collections.abc import Callable, Iterable, Iterator
 
-from e1gw_common.lines import SEIZURE_WAIT, TrunkConfig
-from e1gw_common.session import MULTIFRAME, Codec, Command, Kind, refusal_of, trunk_record
+from e1gw_common.lines import SEIZURE_WAIT, TrunkConfig, read_config
+from e1gw_common.session import MULTIFRAME, OCTETS_A_SECOND, Codec, Command, Kind, refusal_of, trunk_record
 from e1gw_common.session_files import InputError
+from .beginning import Begun
 from .facts import Facts, Row
 from .listening import SpeechListener
 from .replay import Replay
@@ -32,6 +33,16 @@ def rows_of(config: TrunkConfig, wait: int = SEIZURE_WAIT) -> dict[int, Row]:
         if its.local_port:
             row.local, row.peer = f'{config.host}:{its.local_port}', f'{its.peer_host}:{its.peer_port or ""}'
     return rows
+
+
+def facts_of(begun: Begun, last: int | None = None) -> Facts:
+    """The facts known of a session before it is read."""
+    session, place = begun.session, begun.place
+    facts = Facts(rows_of(read_config(begun.config), begun.session.wait), last)
+    facts.slips = session.slips and [(place + at, seconds) for at, seconds in session.slips]
+    facts.breaks = [each.shifted(place) for each in session.breaks]
+    facts.begin = None if session.begin is None else session.begin - place / OCTETS_A_SECOND
+    return facts
 
 
 def records_of(octets: Iterable[bytes], most: int = PIECE) -> Iterator[bytes]:
@@ -60,6 +71,7 @@ class SessionReading:
         self.facts, self.replay, self.only = facts, replay, only
         self.listener = SpeechListener(facts, program, only)
         self._piece, self._least = (MOST, MOST) if only else (PIECE, LEAST)
+        facts.turned = [facts.rows[only]] if only else facts.turned
         self.begin = self.place = place         # of the session, of all that was answered
         self.at = self.changed = place          # of the last report, and of the last reported change
         self.answers = b''                      # those that were not looked at

@@ -11,7 +11,6 @@ import threading
 from collections.abc import Callable
 from contextlib import suppress
 
-from e1gw_common.config_faults import config_words
 from e1gw_common.lines import SEIZURE_WAIT, wait_words
 from e1gw_common.session import trunk_record
 from e1gw_common.session_files import PIECE, InputError
@@ -108,6 +107,7 @@ class Replay:
         self._socket.close()
         self._errors.close()
         if status == 2:
+            from e1gw_common.config_faults import config_words      # (which is seldom wanted)
             cause = config_words(self._config)
             raise InputError(': '.join(filter(None, (words or 'e1gw replay: status 2', cause))))
         if not status and not self._is_told:

@@ -10,8 +10,7 @@ from e1gw_common.session_files import InputError, open_session
 from .beginning import NO_CONFIG, begin_at
 from .facts import Facts
 from .findings import NO_FAULT, findings
-from .main import facts_of
-from .reading import SessionReading
+from .reading import SessionReading, facts_of
 from .svg import duration
 
 LAST = 30.0                 # seconds that are looked at

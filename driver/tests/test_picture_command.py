@@ -16,7 +16,7 @@ from .support import FolderCase, program, text_of
 from .picture_made import (BEGIN, COMMAND, PEER, MadeSession, PictureSender, apart, icmp, page_of, pcap, recorded,
                            udp)
 
-from e1gw_picture import main
+from e1gw_picture import main, progress
 from e1gw_common.packets import BadCapture, Datagram, datagrams
 from e1gw_common.session import OCTETS_A_SECOND, Kind, records_in, trunk_record
 from e1gw_common.session_files import RecordedSession
@@ -145,15 +145,15 @@ class PictureCommandTests(FolderCase):
         for is_terminal, told in ((True, ['4.00', '6.00', '8.00']), (False, ['4.00'])):
             place, said = 0.0, io.StringIO()
             with self.subTest(is_terminal), contextlib.redirect_stderr(said):
-                progress = main.Progress(RecordedSession(['1', '2']), is_terminal, lambda: place / 2)
+                reading = progress.Progress(RecordedSession(['1', '2']), is_terminal, lambda: place / 2)
                 for tenth in range(95):
                     place = tenth / 10
-                    progress.read(round(place * OCTETS_A_SECOND))
-                progress.end()
+                    reading.read(round(place * OCTETS_A_SECOND))
+                reading.end()
                 found = re.findall(r'picture: (\d+\.\d\d) s of the trunk read, file 0 of 2', said.getvalue())
                 self.assertEqual(found, told)
                 self.assertEqual(said.getvalue().endswith('\r\x1b[K'), is_terminal)
-        with mock.patch.object(main, 'SOON', 0.0), contextlib.redirect_stderr(said := io.StringIO()):
+        with mock.patch.object(progress, 'SOON', 0.0), contextlib.redirect_stderr(said := io.StringIO()):
             main.drawn(main.parser().parse_args(['--config', self.config, '--program', program(), self.given]))
         self.assertRegex(said.getvalue(), ' of the trunk read; it goes on\n$')
 

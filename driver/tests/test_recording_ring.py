@@ -31,9 +31,9 @@ class KeptTimeTests(unittest.TestCase):
 
 
     def test_files(self) -> None:
-        """Of 30 s, from six minutes to an hour: twelve at least and 120 at most."""
-        self.assertEqual([seconds_of_file(seconds_of(text)) for text in ('1m', '5m', '6m', '1h', '2h', '1d')],
-                         [5.0, 25.0, 30.0, 30.0, 60.0, 720.0])
+        """Of 10 s, from two minutes to an hour: twelve at least and 360 at most."""
+        self.assertEqual([seconds_of_file(seconds_of(text)) for text in ('1m', '90s', '2m', '1h', '2h', '1d')],
+                         [5.0, 7.5, 10.0, 10.0, 20.0, 240.0])
 
 
 class RingTests(support.FolderCase, PropertyCase):

@@ -42,7 +42,7 @@ def add_first(words: argparse._ArgumentGroup) -> None:
     words.add_argument('--session', metavar='FILE', help='records all that the program receives, for e1gw replay and '
                        'check')
     words.add_argument('--keep', type=checked(seconds_of), metavar='TIME',
-                       help='--session is a folder for the last 30m, 1h, 2d, in twelve to 120 files')
+                       help='--session is a folder for the last 30m, 1h, 2d, in twelve to 360 files')
 
 
 def add_calls(words: argparse._ArgumentGroup) -> None:
