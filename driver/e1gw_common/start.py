@@ -1,7 +1,6 @@
 """Starts a command, as the programs bin/e1gw-NAME do."""
 import importlib
 import os
-import signal
 import sys
 from types import ModuleType
 from typing import NoReturn, Sequence
@@ -12,15 +11,10 @@ COMMANDS = {
     'pcap': 'e1gw_tools.pcap', 'picture': 'e1gw_picture.main', 'records': 'e1gw_tools.records',
     'tie': 'e1gw_tie.main', 'trunk': 'e1gw.holder.main', 'watch': 'e1gw.watcher.main'}
 PICTURE = 'e1gw_picture'    # may not be there: it is of the package e1gw-picture
-# e1gw-trunk catches these signals. As it begins they wait until it does: they would end it, in systemd's view in order.
-HOLDER = 'trunk'
-CAUGHT = (signal.SIGHUP, signal.SIGUSR1, signal.SIGUSR2, signal.SIGTERM, signal.SIGINT)
 
 
 def load(name: str) -> ModuleType:
     """The module of a command."""
-    if name == HOLDER:
-        signal.pthread_sigmask(signal.SIG_BLOCK, CAUGHT)
     return importlib.import_module(COMMANDS[name])
 
 

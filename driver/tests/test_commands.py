@@ -25,6 +25,13 @@ AROUND = os.environ | {'PYTHONPATH': DRIVER}
 COMPLETION = os.path.join(support.TOP, 'dist', 'completions', 'e1gw-ctl.bash')
 ASKS = '''. "$0"; cd "$1"; COMP_LINE=$2 COMP_POINT=${#2} COMP_TYPE=9; _python_argcomplete "./${2%% *}"
 printf '%s\\n' "${COMPREPLY[@]}"'''
+# What e1gw-trunk loads first, as signals come; it says which of them wait.
+COMES_AT_IMPORT = '''import os, signal
+for name in 'HUP', 'INT', 'TERM', 'USR1', 'USR2':
+    os.kill(os.getpid(), getattr(signal, f'SIG{name}'))
+def start(name):
+    print(*sorted(signal.Signals(each).name for each in signal.sigpending()))
+'''
 DEBIAN = '/usr/bin:/bin'            # whose python3 has Debian's packages
 
 
@@ -52,6 +59,13 @@ class CommandNameTests(support.FolderCase):
         os.symlink(os.path.join(BIN, 'e1gw-ctl'), self.path('west'))
         status, said, _ = ran(self.path('west'), '--help')
         self.assertEqual((status, 'e1gw-ctl' in said), (0, True))
+
+    def test_signals_that_come_as_e1gw_trunk_begins(self) -> None:
+        """They wait, also while what it imports is loaded."""
+        shutil.copytree(BIN, self.path('bin'))
+        os.makedirs(self.path('driver/e1gw_common'))
+        self.write('driver/e1gw_common/start.py', COMES_AT_IMPORT)
+        self.assertEqual(ran(self.path('bin/e1gw-trunk')), (0, 'SIGHUP SIGINT SIGTERM SIGUSR1 SIGUSR2\n', ''))
 
     def test_a_package_that_is_not_there(self) -> None:
         """It is named."""
