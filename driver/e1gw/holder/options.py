@@ -2,6 +2,7 @@
 from __future__ import annotations
 
 import os
+import signal
 from typing import Callable, Mapping, NamedTuple
 
 from e1gw_common.addresses import host_and_port
@@ -156,6 +157,8 @@ def program_of(asked: str, around: Mapping[str, str]) -> str:
     path = asked or around.get('E1GW', '')
     if '/' in path:
         return os.path.abspath(path)
+    # it may be built, for long: who waits may end that, and nothing is held yet
+    signal.pthread_sigmask(signal.SIG_UNBLOCK, (signal.SIGINT, signal.SIGTERM))
     from e1gw_common.programs import path_of_program
     return path_of_program(path)
 
