@@ -551,11 +551,11 @@ class HolderAnswerTests(unittest.TestCase):
             for name in 'line', 'sockets', 'log', 'store':
                 setattr(holder, name, mock.Mock())
             holder.answer_waiting = functools.partial(Holder.answer_waiting, holder)
-            asked = [mock.Mock(word=word) for word in ('reload', 'renew', 'take')]
+            asked = [mock.Mock(word=word) for word in ('reload', 'take')]
             holder.requests = [*asked]
             does(holder)
             self.assertEqual([each.word for each in holder.requests], waits)
-            self.assertEqual([len(each.answer_refused.mock_calls) for each in asked], [1, 1, int(not waits)])
+            self.assertEqual([len(each.answer_refused.mock_calls) for each in asked], [1, int(not waits)])
             self.assertEqual(holder.store.notify.mock_calls, [mock.call('READY=1')])
 
 

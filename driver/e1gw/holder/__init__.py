@@ -13,8 +13,8 @@ FOLDER is WITHIN/NAME-UID. Others know of a trunk by
 
   WITHIN/NAME-UID.lock  the holder has it locked, and is named in it
   FOLDER/holder         what is held, as JSON (`holder_state.py`); the next holder has the role that is there
-  FOLDER/hold           a socket, which takes a word on a line: reload, reload force, renew, quit, take, take NUMBER
-                        (of the next packet, of a line that has packets), release. A line answers: `WORD: done`,
+  FOLDER/hold           a socket, which takes a word on a line: reload, reload force, quit, take, take NUMBER (of the
+                        next packet, of a line that has packets), release. A line answers: `WORD: done`,
                         `WORD: refused: WHY` or `unknown`
   FOLDER/said           what the program of now says
   FOLDER/config, tried  the configuration that runs, in which names are addresses; what was tried, as JSON

@@ -169,16 +169,14 @@ class Holder:
 
     # ---- what is wanted ----
 
-    def renew(self, now: float) -> str:
-        """Another program is to follow, which has again what is gone; or why not."""
+    def renew(self, now: float) -> None:
+        """Another program is to follow, which has again what is gone."""
         self.renewals = self.renewals.with_one(now)
         try:
             os.makedirs(f'{self.folder}/log', 0o700, exist_ok=True)
         except OSError as fault:
-            log_line(Severity.ERROR, f'{words_of_fault(fault)}: the program goes on without its folder')
-            return words_of_fault(fault)
+            return log_line(Severity.ERROR, f'{words_of_fault(fault)}: the program goes on without its folder')
         self.request_end(EndReason.RENEW, now)
-        return ''
 
     def request_end(self, reason: EndReason, now: float) -> None:
         """The program of now is to end for this."""
@@ -194,18 +192,11 @@ class Holder:
 
     def handle_request(self, request: HolderRequest) -> None:
         """Somebody asks for something at the socket."""
-        now = time.monotonic()
         match request.text:
             case 'reload' | 'reload force' | 'reload when-idle':
                 self.reloads.begin(request)
-            case 'renew' if self.program and self.program.is_up:
-                if why := self.renew(now):
-                    return request.answer_refused(why)
-                self.requests.append(request)
-            case 'renew':
-                request.answer_refused('no program carries the trunk')
             case words if CHANGES.fullmatch(words):
-                change_role(self, request, now)
+                change_role(self, request, time.monotonic())
             case 'quit':
                 request.answer_done()
                 self.end('quit')
@@ -218,7 +209,7 @@ class Holder:
         self.sockets.close_others(())
         give_log(self)
         self.report_waiting('it does not have the trunk')
-        self.answer_waiting('reload', 'renew', 'take', refused='the trunk was released')
+        self.answer_waiting('reload', 'take', refused='the trunk was released')
         self.answer_waiting('release')
 
     def answer_waiting(self, *words: str, refused: str = '') -> None:

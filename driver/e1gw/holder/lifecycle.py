@@ -160,7 +160,7 @@ def on_program_up(holder: Holder, now: float) -> None:
     log_line(Severity.WARNING if holder.lost else Severity.NOTICE, words)
     holder.lost = ''
     holder.store.notify('READY=1', f'STATUS=program {program.pid}')
-    holder.answer_waiting('reload', 'renew', 'take')
+    holder.answer_waiting('reload', 'take')
 
 
 # ---- its end ----
@@ -220,7 +220,7 @@ def carry_out(holder: Holder, decided: Decision, words: str, now: float) -> None
             return holder.release()
         case NextAct.REOPEN:
             holder.why = words
-            holder.answer_waiting('reload', 'renew', refused=words)     # (the next program may be a long time to come)
+            holder.answer_waiting('reload', refused=words)     # (the next program may be a long time to come)
             holder.line.end(words, now)
         case NextAct.GO_BACK:
             go_back(holder)
