@@ -207,10 +207,9 @@ class TwoVersionsTests(unittest.TestCase):
 
     def test_notes(self) -> None:
         """Of a holder that this process was."""
-        was = note_in('{"child": 7, "since": 2.5, "line": {"since": 1.5}, "files": {"lock": 4}, '
-                      '"kept": {"lock": [1, 2]}}')
-        self.assertEqual(was, HolderNote(7, 2.5, HeldLineNote(1.5), 0, {'lock': 4}, {'lock': (1, 2)}))
-        whole = HolderNote(7, 2.5, HeldLineNote(1.5, 9, ['::1:1', '::1:2'], 'why'), 8, {'lock': 4}, {'lock': (1, 2)})
+        was = note_in('{"child": 7, "line": {}, "files": {"lock": 4}, "kept": {"lock": [1, 2]}}')
+        self.assertEqual(was, HolderNote(7, HeldLineNote(), 0, {'lock': 4}, {'lock': (1, 2)}))
+        whole = HolderNote(7, HeldLineNote(9, ['::1:1', '::1:2'], 'why'), 8, {'lock': 4}, {'lock': (1, 2)})
         self.assertEqual(note_in(whole.spell()), whole)
         self.assertEqual(json.loads(whole.spell())['line'],
-                         {'since': 1.5, 'pid': 9, 'words': ['::1:1', '::1:2'], 'why': 'why'})
+                         {'pid': 9, 'words': ['::1:1', '::1:2'], 'why': 'why'})

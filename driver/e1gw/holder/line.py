@@ -122,11 +122,10 @@ class HeldLine:
 
     def note(self) -> HeldLineNote:
         """What the process has to know that this one becomes, which has all descriptors."""
-        return HeldLineNote(self.since)
+        return HeldLineNote()
 
     def restore_note(self, note: HeldLineNote) -> None:
         """The reverse."""
-        self.since = note.since
 
     def end(self, why: str, now: float) -> None:
         """It is closed, to be opened again."""

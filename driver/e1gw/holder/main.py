@@ -97,7 +97,10 @@ def begin(holder: Holder) -> None:
     holder.why, holder.was_up = str(how.value), how in (Beginning.REPLACED, Beginning.KILLED)
     if version := version_left(holder, how):
         holder.versions.switch_to(version)
-    if store.was:
+    if holder.line.files:
+        holder.line.since = before.get('opened', holder.line.since)
+    if how is Beginning.REPLACED and store.was:
+        holder.since = before.get('since', holder.since)
         resume_replaced(holder, store.was)
     elif how is Beginning.KILLED:
         holder.silent -= silence_of(log)
@@ -106,8 +109,6 @@ def begin(holder: Holder) -> None:
             holder.sockets.close_others(())
             store.keep(holder.descriptors_to_store())
             store.wait_until_closed()
-        if holder.line.files:
-            holder.line.since = before.get('opened', holder.line.since)
     elif how is Beginning.SAVED:
         load(holder)
         if holder.status is not None:
@@ -152,7 +153,6 @@ def resume_replaced(holder: Holder, was: HolderNote) -> None:
     """This process was another holder, whose child and descriptors it has."""
     files = holder.store.files
     holder.program = HeldProgram(was.child, holder.loop, files.pop('leash'), files.pop('said'))
-    holder.since = was.since
     holder.line.restore_note(was.line)
     log_line(Severity.NOTICE, f'{holder.why}: program {was.child} goes on')
 

@@ -8,20 +8,18 @@ Identity = tuple[int, int]      # by which a file is known again: its device and
 
 
 class HeldLineNote(NamedTuple):
-    """Of the line: since when it is open; the process of an emulated circuit, its words, and why it has ended."""
+    """Of the line: the process of an emulated circuit, its words, and why it has ended."""
 
-    since: float
     pid: int = 0
     words: Sequence[str] = ()
     why: str = ''
 
 
 class HolderNote(NamedTuple):
-    """The program, and since when that runs; the line; e1gw-watch. `files` are the descriptors by their names, `kept`
+    """The program, the line, e1gw-watch. `files` are the descriptors by their names, `kept`
     those that systemd keeps."""
 
     child: int
-    since: float
     line: HeldLineNote
     watcher: int = 0
     files: Mapping[str, int] = {}
@@ -36,4 +34,4 @@ def note_in(text: str) -> HolderNote:
     plain = json.loads(text)
     line = HeldLineNote(**{name: its for name, its in plain['line'].items() if name in HeldLineNote._fields})
     kept = {name: (device, inode) for name, (device, inode) in plain['kept'].items()}
-    return HolderNote(plain['child'], plain['since'], line, plain.get('watcher', 0), plain['files'], kept)
+    return HolderNote(plain['child'], line, plain.get('watcher', 0), plain['files'], kept)

@@ -160,8 +160,8 @@ class Reloads:
         holder.publish()
         files = {**holder.descriptors_to_store(), **holder.line.files, 'leash': program.leash, 'said': program.said,
                  'lock': holder.lock}
-        holder.store.become_next(files, HolderNote(program.pid, holder.since, holder.line.note(),
-                                                   holder.watcher.pid if holder.watcher else 0))
+        watcher = holder.watcher.pid if holder.watcher else 0
+        holder.store.become_next(files, HolderNote(program.pid, holder.line.note(), watcher))
 
     def close(self) -> None:
         """Ends what is tried."""

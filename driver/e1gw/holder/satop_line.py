@@ -164,10 +164,9 @@ class SatopLine(HeldLine):
         super().close()
 
     def note(self) -> HeldLineNote:
-        return super().note()._replace(pid=self.pid, words=self._words, why=self._why)
+        return HeldLineNote(self.pid, self._words, self._why)
 
     def restore_note(self, note: HeldLineNote) -> None:
-        super().restore_note(note)
         self._words, self._why = [*note.words], note.why
         if note.pid:
             self._child = Child(note.pid, self.loop, self._on_exit)
