@@ -1,6 +1,7 @@
-"""Prints the files of Python tests of the modules that a commit changes, one a line, first those that are soon done:
-python3 scripts/changed_tests.py, for scripts/hooks/pre-commit. They have a module's name, or import it, or what imports
-it if no test does. Needs git."""
+"""Prints the files of Python tests of the modules that are changed, one a line, first those that are soon done:
+python3 scripts/changed_tests.py [HEAD], for scripts/hooks/pre-commit what is to be committed, with HEAD, for
+scripts/test, what differs from the last commit. They have a module's name, or import it, or what imports it if no test
+does. Needs git."""
 import ast
 import functools
 import os
@@ -62,14 +63,16 @@ def seconds(path: str) -> tuple[bool, int]:
 
 
 def main() -> None:
-    staged = subprocess.run(['git', '-C', TOP, 'diff', '--cached', '--name-only', '--diff-filter=AMR'],
-                            capture_output=True, text=True, check=True).stdout.split('\n')
-    changed = {module_of(path) for path in staged if path.startswith((f'{DRIVER}/', *TESTS)) and path.endswith('.py')}
-    print('\n'.join(sorted({path for module in changed for path in tests_of(module)}, key=seconds)), end='')
+    since = 'HEAD' if 'HEAD' in sys.argv else '--cached'
+    paths = subprocess.run(['git', '-C', TOP, 'diff', since, '--name-only', '--diff-filter=AMR'],
+                           capture_output=True, text=True, check=True).stdout.split('\n')
+    changed = {module_of(path) for path in paths if path.startswith((f'{DRIVER}/', *TESTS)) and path.endswith('.py')}
+    for path in sorted({path for module in changed for path in tests_of(module)}, key=seconds):
+        print(path)
 
 
 if __name__ == '__main__':
-    if sys.argv[1:]:
+    if sys.argv[1:] not in ([], ['HEAD']):
         print(__doc__)
     else:
         main()
