@@ -23,6 +23,7 @@ from e1gw import holder_state, lock
 from e1gw.holder import lifecycle, log
 from e1gw.holder.decisions import Deaths, Decision, EndFault, NextAct
 from e1gw.holder.holder import Holder
+from e1gw.holder.journal import Severity, log_line
 from e1gw.holder.line import Card, HeldLine, has_ended
 from e1gw.holder.loop import Loop
 from e1gw.holder.options import HELP, FLAGS, TEXTS, LineWants, options_of
@@ -538,6 +539,19 @@ class TurnTests(unittest.TestCase):
         with mock.patch.multiple('e1gw.holder.holder', on_program_exit=ended, start_program=mock.DEFAULT) as its:
             Holder.turn(holder, 5.0)
         self.assertEqual((len(ended.mock_calls), len(its['start_program'].mock_calls)), (1, 1))
+
+
+class HolderJournalTests(unittest.TestCase):
+    def test_levels(self) -> None:
+        """As sd-daemon(3) has them, where systemd's journal reads; elsewhere a line has the name of the command."""
+        levels = {Severity.ERROR: '<3>', Severity.WARNING: '<4>', Severity.NOTICE: '<5>'}
+        for around, fronts in ({'JOURNAL_STREAM': '7:7'}, [*levels.values()]), ({}, ['e1gw-trunk: '] * 3):
+            with mock.patch.dict(os.environ, around, clear=True), mock.patch('os.write') as writes, \
+                    mock.patch('select.select', lambda *_: ([], [2], [])):
+                for level in levels:
+                    log_line(level, 'x\ny')
+            said = [call.args for call in writes.mock_calls]
+            self.assertEqual(said, [(2, f'{front}x y\n'.encode()) for front in fronts])
 
 
 class HolderAnswerTests(unittest.TestCase):
