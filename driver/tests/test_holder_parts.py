@@ -331,9 +331,8 @@ class HeldCardTests(unittest.TestCase):
         wants = LineWants('x', lambda: Stream(os.dup(file), os.dup(file), 'x'), (), True, False, '', '')
         line = HeldLine(wants, {}, self.loop)
         with mock.patch('e1gw.holder.line.card_of', lambda file, loop: Card(self.channel, loop)):
-            while not line.files:
+            while not line.try_to_open(time.monotonic()):
                 self.loop.wait(1.0)
-                line.try_to_open(time.monotonic())
         self.addCleanup(line.close)
         return line
 
@@ -374,6 +373,7 @@ class HeldLineTests(FolderCase):
         """A failure is said once; it is tried until it is open, and the next holder has its descriptors."""
         path = self.path('fifo')
         line = self.line(lambda: Stream(os.open(path, os.O_RDONLY | os.O_NONBLOCK), os.dup(2), ''))
+        self.enterContext(mock.patch.multiple('e1gw.holder.decisions', LINE_PAUSE=0.01, MOST_LINE_PAUSE=0.01))
         with mock.patch('e1gw.holder.line.log_line') as said:
             for _ in range(3):
                 self.looks(line)

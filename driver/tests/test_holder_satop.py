@@ -153,6 +153,7 @@ class HeldSatopTests(support.FolderCase):
 
     def test_one_whose_end_cannot_be_waited_for(self) -> None:
         """It is ended, and another one is."""
+        self.enterContext(mock.patch.multiple('e1gw.holder.decisions', LINE_PAUSE=0.01, MOST_LINE_PAUSE=0.01))
         line = self.line(SCRIPT, reopens=True)
         with mock.patch('os.pidfd_open', side_effect=OSError(errno.EMFILE, os.strerror(errno.EMFILE))) as opens:
             os.kill(line.pid, signal.SIGKILL)

@@ -5,6 +5,7 @@ from __future__ import annotations
 import contextlib
 import io
 import os
+import re
 import shutil
 import signal
 import subprocess
@@ -158,6 +159,11 @@ class Front(UnprovedCase):
         self.assertEqual(self.kept(), [])
 
     def test_where_it_cannot_be_kept(self) -> None:
+        """(It is not waited for here so long.)"""
+        with open(f'{TOP}/scripts/unproved.py', encoding='utf-8') as file:
+            text, count = re.subn(r'(?m)^PATIENCE = 5.0 ', 'PATIENCE = 0.1 ', file.read())
+        self.write('tree/scripts/unproved.py', text)
+        self.assertEqual(count, 1)
         status, out, told = self.ran('bin/e1gw', 'encode', HIDDEN='yes')
         self.assertEqual((status, out, self.kept()), (70, '', []))
         self.assertIn('rt try does not let its program be kept', told)
