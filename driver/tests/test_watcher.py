@@ -179,8 +179,10 @@ class WatcherShowsTests(WatcherCase):
                               stdout=subprocess.PIPE, env={**os.environ, 'NOTIFY_SOCKET': self.manager.path}) as holder:
             assert holder.stdout
             watcher = int(holder.stdout.readline())
-            support.until(lambda: 'WATCHDOG=1' in self.manager.read_lines())
-            holder.kill()
+            try:
+                support.until(lambda: 'WATCHDOG=1' in self.manager.read_lines())
+            finally:
+                holder.kill()
         support.until(lambda: support.state_of(watcher) in ('', 'Z'))
 
     def test_in_a_folder_that_is_made_again(self) -> None:
