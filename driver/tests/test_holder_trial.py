@@ -180,8 +180,8 @@ class TrialTests(support.FolderCase):
 
 
 class TwoVersionsTests(unittest.TestCase):
-    """After an update a holder of the version before starts the job, and either of two processes may become the other:
-    the words between them are those of the releases."""
+    """After an update a holder of the version before starts the job, and either of two holders may become the other:
+    what they say to each other stays as it is here."""
 
     TRIED = ('{"head": "law = \\"A\\"\\n", "circuits": {"1": ["its", "bare"]}, "ports": {"1": ["10.0.0.1", 5000]}, '
              '"senders": "host", "name": "1.0"}')
