@@ -105,9 +105,8 @@ def version_name(asked: JobRequest) -> str:
 
 def read(path: str) -> str:
     """The text of a configuration. What is no file (a FIFO, say) or is too long is refused."""
-    file = os.open(path, os.O_RDONLY | os.O_NONBLOCK | os.O_CLOEXEC)
-    with open(file, 'rb') as opened:
-        if not stat.S_ISREG(os.fstat(file).st_mode):
+    with open(path, 'rb', opener=lambda name, flags: os.open(name, flags | os.O_NONBLOCK)) as opened:
+        if not stat.S_ISREG(os.fstat(opened.fileno()).st_mode):
             raise TrialLater(f'{path} is no file')
         octets = opened.read(MOST_OCTETS + 1)
     if len(octets) > MOST_OCTETS:

@@ -66,7 +66,7 @@ def begin(path: str, last: int | None, config: str | None, program: str | None) 
         if not asked:
             if path != '-':
                 open(session.files[0], 'rb').close()    # a path that is wrong has no configuration either
-            raise InputError(NO_CONFIG)
+            raise InputError(f'{path}: {NO_CONFIG}')
         if not session.middle:
             return started(session, asked, program), '; '.join(notes)
         begun, why = from_state(session, asked, program)

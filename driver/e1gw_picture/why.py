@@ -22,7 +22,7 @@ def last_facts(path: str, circuit: int, config: str | None = None, seconds: floa
     session = open_session(path, round(seconds * OCTETS_A_SECOND))
     config = session.config or config
     if not config:
-        raise InputError(NO_CONFIG)
+        raise InputError(f'{path}: {NO_CONFIG}')
     end = os.stat(session.files[-1]).st_mtime
     place = session.clock.place(end - seconds) if session.begin is not None else 0
     begun, octets = begin_at(session, place, circuit, config, None)

@@ -179,6 +179,8 @@ def begin_of(states: Iterable[tuple[int, int, str]], first: int, last: int) -> i
 def found(name: str, folder: str | None, calls: str | None) -> tuple[EndedCall, str]:
     """A call, and the folder in which its trunk is kept. InputError if no line has it."""
     folders = [folder] if folder else sorted(glob.glob(f'{UNITS}/*/'))
+    if not folders:
+        raise InputError(f'{UNITS} has no folder of a trunk; name that of the recording')
     files = [calls or os.path.join(each, 'calls.csv') for each in folders]
     for path, each in zip(files, folders):
         if not folder and not os.path.lexists(each + 'calls.csv') and os.access(each, os.X_OK):

@@ -29,9 +29,10 @@ import sys
 from contextlib import suppress
 from dataclasses import replace
 from ipaddress import ip_address
+from itertools import chain, islice
 from typing import BinaryIO, Callable, Iterable, Iterator, NamedTuple
 
-from e1gw_common.faults import Parser, checked, words_of_fault
+from e1gw_common.faults import Parser, checked, number, words_of_fault
 from e1gw_common.lines import TrunkConfig, read_config
 from e1gw_common.packets import BadCapture, packets
 from e1gw_common.session import (CIRCUITS, SAMPLES_A_SECOND, BadPacket, BadSession, Kind, Record, Repetitions,
@@ -70,7 +71,7 @@ class PcapRepetitions:
 
     def report_repetitions(self) -> None:
         if self.count:
-            print(f'pcap: {self.count} of {self.every} packets are repetitions', file=sys.stderr)
+            print(f'{NAME}: {self.count} of {self.every} packets are repetitions', file=sys.stderr)
 
 
 class StampTimes:
@@ -246,11 +247,21 @@ def checksum(octets: bytes) -> int:
 
 
 def write_capture(packets: Iterable[tuple[float, bytes]], sink: BinaryIO) -> None:
-    """Writes a pcap file with times in microseconds."""
+    """Writes a pcap file with times in microseconds; nothing of a session that fails before its first packet."""
+    packets = iter(packets)
+    first = [*islice(packets, 1)]
     sink.write(struct.pack('<IHHiIII', 0xA1B2C3D4, 2, 4, 0, 0, 65535, PLAIN_IP))
-    for time, octets in packets:
+    for time, octets in chain(first, packets):
         seconds, rest = divmod(min(LAST, round(time * 1e6)), 10**6)
         sink.write(struct.pack('<IIII', seconds, rest, len(octets), len(octets)) + octets)
+
+
+def named(stream: Iterator[Timed], path: str) -> Iterator[Timed]:
+    """The same, whose faults name the file."""
+    try:
+        yield from stream
+    except BadSession as bad:
+        raise InputError(f'{"standard input" if path == "-" else path}: {bad}') from None
 
 
 def write_session(asked: argparse.Namespace, sink: BinaryIO) -> None:
@@ -258,7 +269,7 @@ def write_session(asked: argparse.Namespace, sink: BinaryIO) -> None:
     answers, given = open_session(asked.file or '-'), open_session(asked.given) if asked.given else None
     dated = given if given and given.begin is not None else answers
     clock = dated.clock if asked.begin is None else replace(dated.clock, begin=asked.begin)
-    streams = [timed(each.octets(), clock, each is answers) for each in (answers, given) if each]
+    streams = [named(timed(each.octets(), clock, each is answers), each.files[0]) for each in (answers, given) if each]
     path = asked.config or (dated.config if dated.config and os.path.exists(dated.config) else None)
     config = read_config(path) if path else TrunkConfig()
     codecs = {n: line.configured for n, line in config.lines().items()} if path else {}
@@ -297,7 +308,7 @@ def asked_for() -> argparse.Namespace:
     words = Parser(description=__doc__, usage=argparse.SUPPRESS,
                    formatter_class=argparse.RawDescriptionHelpFormatter)
     words.add_argument('--back', action='store_true')
-    words.add_argument('--circuit', metavar='N', type=int, choices=CIRCUITS)
+    words.add_argument('--circuit', metavar='N', type=number(1, 30))
     words.add_argument('--config', metavar='FILE')
     words.add_argument('--begin', metavar='TIME', type=checked(second_of, 'a time such as 2026-11-23T07:30:00Z'))
     words.add_argument('--in', metavar='SESSION', dest='given')
@@ -316,9 +327,12 @@ def work(asked: argparse.Namespace) -> None:
 
 
 def main() -> None:
+    asked = asked_for()
     try:
-        work(asked_for())
+        work(asked)
     except BrokenPipeError:
         os.dup2(os.open(os.devnull, os.O_WRONLY), 1)
-    except (BadSession, BadCapture, InputError, OSError) as trouble:
+    except BadCapture as bad:
+        sys.exit(f'{NAME}: {asked.file or "standard input"}: {bad}')
+    except (InputError, OSError) as trouble:
         sys.exit(f'{NAME}: {words_of_fault(trouble)}')

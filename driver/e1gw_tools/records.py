@@ -27,7 +27,7 @@ from typing import BinaryIO, Iterator
 
 from e1gw_common.faults import Parser, number, words_of_fault
 from e1gw_common.frames import REVERSED, FrameSearch, raw_words_of
-from e1gw_common.session import (CIRCUITS, FRAME, OCTETS_A_SECOND, BadPacket, BadSession, Kind, Record, packet_of,
+from e1gw_common.session import (FRAME, OCTETS_A_SECOND, BadPacket, BadSession, Kind, Record, packet_of,
                                  records, trunk_record)
 from e1gw_common.session_files import InputError, octets_of, pieces, read_about
 
@@ -115,17 +115,17 @@ def kept_pieces(source: Iterator[bytes]) -> Iterator[bytes]:
     return (record.body for record in records(source) if record.kind is Kind.TRUNK)
 
 
-def write_speech(pieces: Iterator[bytes], circuit: int, law: str, sink: BinaryIO) -> None:
-    """Writes what octets of a trunk have in the time slot of a circuit."""
+def write_speech(pieces: Iterator[bytes], name: str, circuit: int, law: str, sink: BinaryIO) -> None:
+    """Writes what octets of a trunk, those of a file of this name, have in the time slot of a circuit."""
     frames, heard = FrameSearch(), bytearray()
     for piece in pieces:
         for _, pairs in frames.take(piece):
             heard += pairs[circuit + (circuit > 15)::FRAME]
     for place in frames.losses:
-        print(f'records: frame alignment lost at octet {place}', file=sys.stderr)
+        print(f'{NAME}: frame alignment lost at octet {place}', file=sys.stderr)
     if not heard:
-        raise InputError('no frame was found in the octets of the trunk; for reversed bits use --from-raw --reverse, '
-                         'for unaligned octets e1gw align')
+        raise InputError(f'{name}: no frame was found in the octets of the trunk; for reversed bits use --from-raw '
+                         '--reverse, for unaligned octets e1gw align')
     write_wave(heard, law, sink)
 
 
@@ -143,7 +143,7 @@ def asked_for() -> argparse.Namespace:
     words.add_argument('--from-raw', action='store_true')
     what = words.add_mutually_exclusive_group()
     what.add_argument('--to-raw', action='store_true')
-    what.add_argument('--circuit', metavar='N', type=int, choices=CIRCUITS)
+    what.add_argument('--circuit', metavar='N', type=number(1, 30))
     what.add_argument('--until', metavar='MS', type=times)
     what.add_argument('--from', metavar='MS', type=times, dest='begin')
     words.add_argument('--reverse', action='store_true')
@@ -158,13 +158,18 @@ def asked_for() -> argparse.Namespace:
     return asked
 
 
+def name_of(asked: argparse.Namespace) -> str:
+    """How what is read is named."""
+    return asked.file or 'standard input'
+
+
 def work(asked: argparse.Namespace) -> None:
     """Does what was asked for."""
     if not asked.from_raw:
         return read_session(asked, octets_of(asked.file) if asked.file else pieces(sys.stdin.buffer))
     with open(asked.file, 'rb') if asked.file else sys.stdin.buffer as source:
         if asked.circuit:
-            write_speech(raw_pieces(source, asked.reverse), asked.circuit, asked.law, sys.stdout.buffer)
+            write_speech(raw_pieces(source, asked.reverse), name_of(asked), asked.circuit, asked.law, sys.stdout.buffer)
         else:
             sys.stdout.buffer.writelines(map(trunk_record, raw_pieces(source, asked.reverse, asked.size)))
 
@@ -172,7 +177,7 @@ def work(asked: argparse.Namespace) -> None:
 def read_session(asked: argparse.Namespace, source: Iterator[bytes]) -> None:
     """Does it with a session."""
     if asked.circuit:
-        write_speech(kept_pieces(source), asked.circuit, asked.law, sys.stdout.buffer)
+        write_speech(kept_pieces(source), name_of(asked), asked.circuit, asked.law, sys.stdout.buffer)
     elif asked.to_raw:
         sys.stdout.buffer.writelines(kept_pieces(source))
     elif asked.until is not None or asked.begin is not None:
@@ -190,7 +195,7 @@ def main() -> None:
         os.dup2(os.open(os.devnull, os.O_WRONLY), 1)
     except BadSession as bad:
         why = raw_words_of(asked.file) if asked.file else None
-        sys.exit(f'{NAME}: {asked.file or "standard input"}: {bad}{f": {why}" if why else ""}')
+        sys.exit(f'{NAME}: {name_of(asked)}: {bad}{f": {why}" if why else ""}')
     except (InputError, OSError) as trouble:
         sys.exit(f'{NAME}: {words_of_fault(trouble)}')
     except KeyboardInterrupt:

@@ -54,10 +54,10 @@ class AfterAnEndTests(unittest.TestCase):
         return next(act for holds, act in rules if holds)
 
     def test_status(self) -> None:
-        """0 if the end was asked for, or the line ended and the program with it in order."""
+        """0 if the end was asked for, or the line ended without a fault and the program with it in order."""
         for end in ends():
             decided = after_end(end)
-            is_good = end.reason is EndReason.END or end.was_up and end.is_well
+            is_good = end.reason is EndReason.END or end.was_up and end.is_well and end.fault is not EndFault.TRUNK
             self.assertEqual(decided.status, int(decided.act is NextAct.FINISH and not is_good), end)
 
     def test_a_first_program_waits(self) -> None:

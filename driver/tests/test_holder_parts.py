@@ -445,12 +445,12 @@ class HolderOptionsTests(unittest.TestCase):
     def test_refused(self) -> None:
         for words, why in (
                 (list[str](), 'a trunk is'), (['--unix', 'a', '--tcp', 'h:1'], 'a trunk is'),
-                (['--in', 'a'], 'a trunk is'), (['--tcp', 'h'], 'no HOST:PORT'),
+                (['--in', 'a'], 'a trunk is'), (['--tcp', 'h'], '--tcp: h is no HOST:PORT'),
                 (['--http', 'h:1'], '--http: no option of e1gw-trunk'),
                 (['--unix'], 'wants a value'), (['--unix', 'a', '--repeat', '9'], '0 to 8'),
                 (['--unix', 'a', '--senders', 'x'], 'any, first, host, peer'),
                 (['--satop', 'a:1,b:2,from=b'], 'no HOST:PORT'),
-                (['--satop', 'a:1,b:2,x=1'], 'x=1'), (['--satop', 'a:1'], 'no HOST:PORT'),
+                (['--satop', 'a:1,b:2,x=1'], 'x=1'), (['--satop', 'a:1'], '--satop lacks an address'),
                 (['--satop', 'a:1,b:2,size=33'], 'multiple of 32'),
                 (['--satop', 'a:1,b:2,rtp=128'], 'rtp= .* 0 to 127'),
                 (['--satop', 'a:1,b:2,jitter=x'], '0 to 500'), (['--satop', 'a:1,b:2,clock=x'], 'packets or own'),

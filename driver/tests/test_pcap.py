@@ -146,7 +146,7 @@ class CaptureTests(unittest.TestCase):
         first = [datagram(n, 160 * n) for n in range(4)]
         given = b''.join(first[:2] + first[:1] + first[2:3] + first[1:2] + first[3:] + first[2:3])
         run = ran(given=given)
-        self.assertEqual(run.stderr, b'pcap: 3 of 7 packets are repetitions\n')
+        self.assertEqual(run.stderr, b'e1gw-pcap: 3 of 7 packets are repetitions\n')
         back = ran('--back', given=run.stdout)
         self.assertEqual((back.stdout, back.stderr), (given, run.stderr))
 
@@ -165,3 +165,17 @@ class CaptureTests(unittest.TestCase):
 
     def test_what_is_no_capture(self) -> None:
         self.assertEqual(ran('--back', given=b'RIFF' + bytes(40)).returncode, 1)
+
+    def test_what_cannot_be_read(self) -> None:
+        """The file and the cause are named, and nothing is written, which would look like a capture."""
+        with tempfile.TemporaryDirectory() as folder:
+            missing, bad = os.path.join(folder, 'missing'), os.path.join(folder, 'bad')
+            with open(bad, 'wb') as file:
+                file.write(b'law = "A"')
+            for words, said in (([missing], f'{missing}: No such file or directory'),
+                                ([bad], f'{bad}: fault 1 BadKind in the record at octet 0'),
+                                (['--back', bad], f'{bad}: not a capture: neither pcap nor pcapng'),
+                                ([folder], f'{folder} holds no session (files of NAME.e1gw)')):
+                ended = ran(*words)
+                self.assertEqual((ended.returncode, ended.stdout, ended.stderr.decode()),
+                                 (1, b'', f'e1gw-pcap: {said}\n'))

@@ -149,4 +149,4 @@ class CircuitSpeechTests(unittest.TestCase):
     def test_no_frame(self) -> None:
         ended = ran('--circuit', '1', given=ran('--from-raw', given=b'\xD5' * 4096).stdout)
         self.assertEqual((ended.returncode, ended.stdout), (1, b''))
-        self.assertIn(b'no frame', ended.stderr)
+        self.assertIn(b': no frame was found', ended.stderr)

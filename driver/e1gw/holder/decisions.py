@@ -27,7 +27,7 @@ class EndReason(Enum):
 
 
 class EndFault(Enum):
-    """Of what a program has said that it ended."""
+    """Of what a program has said that it ended, or its line."""
 
     NONE = 'nothing that is known here'
     TRUNK = 'the trunk cannot be read or written'
@@ -114,7 +114,7 @@ def after_end(end: EndOfProgram) -> Decision:
         return Decision(NextAct.START, end.deaths, end.trial)
     if end.is_line_over:
         return Decision(NextAct.REOPEN, end.deaths, end.trial) if end.reopens else \
-            Decision(NextAct.FINISH, end.deaths, status=int(not end.is_well))
+            Decision(NextAct.FINISH, end.deaths, status=int(not end.is_well or end.fault is EndFault.TRUNK))
     return _died(end)
 
 

@@ -201,6 +201,8 @@ def gather_end(holder: Holder, program: HeldProgram, status: int, now: float) ->
         words = holder.line.why_ended(counted_octets(lines) or 0)
         if fault is EndFault.TRUNK:
             words = words or f'the trunk has ended: the program {end_words(status, lines)}'
+        elif words.startswith(EndFault.TRUNK.value):
+            fault = EndFault.TRUNK          # (of `e1gw satop`: the program was given its end, and ended well)
     return EndOfProgram(reason, fault, was_up, is_well, is_crash(status), bool(words), not holder.was_up,
                         holder.options.line.reopens, holder.versions.trial, holder.deaths, now), words
 

@@ -173,7 +173,7 @@ def line_of(asked: Mapping[str, str], program: str, folder: str) -> LineWants:
     if asked['clear'] and asked['satop']:
         raise ValueError('--clear is for a device that keeps slot 0; --satop has all 32 slots')
     path, reads, writes = asked['unix'], asked['in'], asked['out']
-    place = host_and_port(asked['tcp']) if asked['tcp'] else None
+    place = option_address('tcp', asked['tcp']) if asked['tcp'] else None
     if asked['blocks']:
         from .. import dahdi                        # (which a card's line loads in any case)
         dahdi.blocks_of(asked['blocks'])
@@ -189,13 +189,21 @@ def line_of(asked: Mapping[str, str], program: str, folder: str) -> LineWants:
                      program, folder)
 
 
+def option_address(name: str, text: str) -> tuple[str, int]:
+    """The address that an option has. ValueError, which names the option, where it has none."""
+    try:
+        return host_and_port(text)
+    except ValueError as fault:
+        raise ValueError(f'--{name}: {fault}' if text else f'--{name} lacks an address') from None
+
+
 def satop_of(text: str) -> tuple[str, ...]:
     """Both ends, and the options of `e1gw satop`."""
     if not text:
         return ()
     near, far, *more = [*text.split(','), '']
     for each in near, far:
-        host_and_port(each)
+        option_address('satop', each)
     asked = {'size': '256'}
     for each in filter(None, more):
         name, _, value = each.partition('=')
@@ -203,7 +211,7 @@ def satop_of(text: str) -> tuple[str, ...]:
         if name == 'clock' and value in CLOCKS:
             continue
         if name == 'from':
-            host_and_port(value)
+            option_address('satop', value)
             continue
         if name not in SATOP:
             raise ValueError(f'--satop has {each}, and knows {", ".join(SATOP)}, from=, and clock= packets or own')

@@ -11,7 +11,7 @@ from typing import Iterator, Mapping
 
 from e1gw_common.addresses import host_and_port
 from ..satop_numbers import SatopBegun, begun_in, lines_in, number_of_now
-from .decisions import Openings
+from .decisions import EndFault, Openings
 from .journal import Severity, log_line
 from .line import HeldLine
 from .loop import Loop
@@ -23,7 +23,7 @@ MULTIFRAME = 512
 ONES = b'\xff' * 2 * MULTIFRAME         # behind which frame alignment is looked for again
 ANEW = 0.2                  # seconds for the far end to take its packets as a new stream
 GRACE, SOON = 1.0, 0.005    # seconds for the process to send what it was given last; between two looks
-ENDED, BROKEN = 'the trunk has ended', 'the trunk cannot be read or written'
+ENDED, BROKEN = 'the trunk has ended', EndFault.TRUNK.value
 
 
 class SatopLine(HeldLine):
