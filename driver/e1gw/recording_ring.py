@@ -24,7 +24,7 @@ SHORT = 10.0                # seconds of a file, unless there are so few or so m
 MOST_EARLIER = MOST         # files of earlier sessions
 MOST_OWN = 2 * MOST         # of this one, whose programs may follow one another soon
 MOST_SLIPS = 1000           # that are noted for a file
-RECORDS, STATE = '.e1gw', '.state'
+RECORDS, STATE, CONFIG = '.e1gw', '.state', '.toml'
 
 
 def seconds_of(text: str) -> int:
@@ -45,7 +45,8 @@ class Ring:
     """The files of a session in a folder, of which those of the last seconds stay.
 
     A file is NAME-TIME.e1gw, packed once it is whole; NAME-TIME.json says what is in it, and where octets of the trunk
-    were lost, which the octets themselves do not show; NAME-TIME.state is what the gateway was when it begins. How old
+    were lost, which the octets themselves do not show; NAME-TIME.state is what the gateway was when it begins, and
+    NAME-TIME.toml its configuration then. How old
     a file is, its place on the trunk says: the clock of the day may be set at any time, and tells no more than a
     name."""
 
@@ -64,14 +65,15 @@ class Ring:
         self.own = *self.own, (front, place)
         return front
 
-    def begin(self, front: str, about: FileAbout, state: bytes) -> None:
+    def begin(self, front: str, about: FileAbout, state: bytes, config: bytes = b'') -> None:
         """The last file is written from now on. What is there of it stays; else this is what is said of it."""
         os.makedirs(self._folder, mode=0o750, exist_ok=True)
         before = next((os.path.basename(its) for its, _ in self.own[-2:-1]), None)
         there = read_about(front)
         self._front, self._about = front, replace(about, after=before) if there == FileAbout() else there
-        if state and not os.path.exists(f'{front}{STATE}'):
-            put_file(f'{front}{STATE}', state, 0o640)
+        for ending, octets in (STATE, state), (CONFIG, config):
+            if octets and not os.path.exists(f'{front}{ending}'):
+                put_file(f'{front}{ending}', octets, 0o640)
         self._put_about()
         self._drop_old(self.own[-1][1])
         if self.zstd:
@@ -121,7 +123,7 @@ class Ring:
 
 def _fronts_in(folder: str, name: str) -> list[str]:
     """The files of a ring of this name that are there, without their endings, in the order of their times."""
-    is_one = re.compile(rf'({re.escape(name)}-\d{{8}}T\d{{6}}Z(?:_\d+)?)\.(?:e1gw|json|state)').match
+    is_one = re.compile(rf'({re.escape(name)}-\d{{8}}T\d{{6}}Z(?:_\d+)?)\.(?:e1gw|json|state|toml)').match
     fronts = {found[1] for each in os.listdir(folder) if (found := is_one(each))}
     return [os.path.join(folder, front) for front in sorted(fronts, key=by_time)]
 
@@ -139,7 +141,8 @@ def _fresh(front: str, own: Iterable[str]) -> str:
 
 def _drop(front: str) -> None:
     """Takes a file away, and what says what it is behind it. (Who packs it has to find its part gone first.)"""
-    for ending in (f'{RECORDS}.part', f'{RECORDS}.zst', RECORDS, '.json.part', '.json', f'{STATE}.new', STATE):
+    for ending in (f'{RECORDS}.part', f'{RECORDS}.zst', RECORDS, '.json.part', '.json', f'{CONFIG}.new', CONFIG,
+                   f'{STATE}.new', STATE):
         try:
             os.unlink(f'{front}{ending}')
         except FileNotFoundError:

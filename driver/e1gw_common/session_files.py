@@ -165,6 +165,12 @@ def state_of(path: str) -> str:
     return state if os.path.exists(state) else ''
 
 
+def config_of(path: str) -> str:
+    """The configuration of when a file of a ring begins; an empty text if there is none."""
+    config = f'{front_of(path)}.toml'
+    return config if os.path.exists(config) else ''
+
+
 def read_about(path: str) -> FileAbout:
     """What is said of a file that is kept; nothing if that can't be read."""
     with suppress(OSError, ValueError), open(f'{front_of(path)}.json', encoding='utf-8') as file:
@@ -178,6 +184,7 @@ def _read_facts(session: RecordedSession) -> RecordedSession:
     session.middle, session.place = about.begins is FileStart.MIDDLE, about.place or 0
     session.state = state_of(session.files[0]) if session.middle else ''
     if about.place is not None:
+        session.config = config_of(session.files[0]) or about.config
         notes = [note for file in session.files if (note := read_about(file).note())]
         session.slips = slips_of(notes)
         session.breaks = [*breaks_of(notes)]

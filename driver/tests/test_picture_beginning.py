@@ -41,8 +41,9 @@ def octets_in(records: list[bytes]) -> int:
 class RingCase(support.FolderCase):
     """Tests of a session that is kept in a ring."""
 
-    def keep(self, made: MadeSession, each: float) -> None:
-        """Keeps a session in four files of so many seconds, each with the state in which it begins."""
+    def keep(self, made: MadeSession, each: float, config: str = '') -> None:
+        """Keeps a session in four files of so many seconds, each with the state in which it begins, and with this
+        configuration, which older rings have not."""
         self.program, self.ring = support.program(), self.path('ring')
         self.config = self.write('west.toml', made.config())
         self.records = [*divided(made.given(), support.chance_of(self))]
@@ -58,7 +59,7 @@ class RingCase(support.FolderCase):
             load = ['--load', f'{front}.state'] if state else []
             begins = FileStart.MIDDLE if state else FileStart.START
             ring.begin(front, FileAbout(self.config, None, BEGIN + each * number, each * number, place, begins=begins),
-                       state)
+                       state, config.encode())
             self.write(f'{front}.e1gw', octets := b''.join(records))
             support.run('replay', '--config', self.config, *load, '--save', saved, given=octets)
             state = support.octets_of(saved)
@@ -165,7 +166,8 @@ class WhyTests(RingCase):
             made.call(circuit, 0.1, end)
         wrong, good = (PictureSender(3, 0.3, 1.0, kind=3), PictureSender(3, 2.2, 3.8, kind=0),
                        PictureSender(4, 0.25, 3.8)), 'No fault found.'
-        self.keep(made.plus(*wrong), 1.0)
+        self.keep(made.plus(*wrong), 1.0, made.config())
+        self.write('west.toml', 'law = "A"\n[[circuit]]\nnumber = 3\ncodec = "g726-32"\npayload = 96\n')     # (edited)
         last = sorted(os.path.join(self.ring, name) for name in os.listdir(self.ring) if name.endswith('.e1gw'))[-1]
         os.utime(last, (BEGIN + 4.0, BEGIN + 4.0))
         with mock.patch.dict(os.environ, E1GW=self.program):

@@ -48,7 +48,7 @@ class RingTests(support.FolderCase, PropertyCase):
     def begins(self, ring: Ring, second: int) -> str:
         """A file of a ring; returns its path without the ending."""
         about = FileAbout(place=second * OCTETS_A_SECOND)
-        ring.begin(front := ring.next(second * OCTETS_A_SECOND), about, b'%d' % second)
+        ring.begin(front := ring.next(second * OCTETS_A_SECOND), about, b'%d' % second, b'law')
         self.write(f'{front}.e1gw', f'{second}')
         return front
 
@@ -56,12 +56,12 @@ class RingTests(support.FolderCase, PropertyCase):
         return sorted(name for name in os.listdir(self.ring) if name.endswith(ending) and name not in OTHERS)
 
     def kept(self) -> list[int]:
-        """The seconds at which the files begin that are there. Each has its .json and its .state."""
+        """The seconds at which the files begin that are there. Each has its .json, its .state and its .toml."""
         fronts, found = [os.path.join(self.ring, name[:-6]) for name in self.files('.state')], list[int]()
         for front in fronts:
             found.append(int(support.text_of(f'{front}.state')))
             self.assertEqual(read_about(front).place, found[-1] * OCTETS_A_SECOND)
-        self.assertEqual([len(self.files(ending)) for ending in ('.json', '.e1gw')], [len(found)] * 2)
+        self.assertEqual([len(self.files(ending)) for ending in ('.json', '.e1gw', '.toml')], [len(found)] * 3)
         return sorted(found)
 
     @mock.patch('e1gw.recording_ring.MOST_EARLIER', EARLIER)

@@ -190,7 +190,7 @@ class TrunkRecording:
         if begin.lost:
             self._slips.appendleft((begin.octets, begin.lost))
         if self.ring:
-            self.ring.begin(self._path, about_of(begin, self.wants), begin.state)
+            self.ring.begin(self._path, about_of(begin, self.wants), begin.state, begin.config)
         self._open()
 
     def _open(self) -> None:
