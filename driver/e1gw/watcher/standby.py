@@ -6,7 +6,6 @@ Each watcher is fed anew: only who was there knows how the clocks differ."""
 from __future__ import annotations
 
 import asyncio
-import ctypes
 import fcntl
 import glob
 import logging
@@ -175,6 +174,7 @@ class FedLog:
 def exchange_folders(one: str, other: str) -> None:
     """Gives each of two folders the name of the other one, by one call of renameat2(2), which Python does not have.
     FileNotFoundError if one is not there, another OSError if the file system cannot."""
+    import ctypes                       # (a trunk that stands by alone needs it, and the start of others is faster)
     libc = ctypes.CDLL(None, use_errno=True)
     if libc.renameat2(AT_FDCWD, os.fsencode(one), AT_FDCWD, os.fsencode(other), RENAME_EXCHANGE):
         number = ctypes.get_errno()
