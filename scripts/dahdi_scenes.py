@@ -114,6 +114,8 @@ def thirty_calls() -> str:
     """By the options of docs/START.md."""
     pair = Shared.begun()
     pair.calls()
+    for site in pair.sites:
+        site.put_first()
     before = [site.losses() for site in pair.sites]
     talk = pair.talk(10)
     after = [site.losses() for site in pair.sites]
