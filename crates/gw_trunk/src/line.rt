@@ -1,9 +1,13 @@
 //! A trunk with its clients as both ends of a session (`TrunkLine`).
 
-ghost use Rattle.std.specs.Prelude.{◌≡◌, ◌^◌, [], length, Some, None, true};
+ghost use Rattle.std.specs.Prelude.{◌≡◌, ◌^◌, ◌≤◌, ◌⊎◌, [], length, Some, None, IfOk, IfErr, OnErr, true, false};
+ghost use Rattle.gw_records.specs.Reader.{FailsToRead, ReadsOn};
+ghost use Rattle.gw_records.specs.Records.{end_of};
+ghost use Rattle.gw_records.specs.Streams.{CanCount};
 ghost use Rattle.gw_records.specs.declared.records.FirstRecord.{FirstRecord};
 ghost use Rattle.gw_trunk.specs.Bodies.{others, told_by};
-ghost use Rattle.gw_trunk.specs.Pieces.{holding, is_accepted, most_octets, source_told, stands_in_room};
+ghost use Rattle.gw_trunk.specs.Pieces.{LacksRecord, held_in, holding, is_accepted, most_octets, source_told};
+ghost use Rattle.gw_trunk.specs.Pieces.{stands_in_room};
 
 use crate::device::{TrunkInput, TrunkOutput};
 use crate::sink::TrunkRecordSink;
@@ -108,7 +112,25 @@ impl<I: TrunkInput, O: TrunkOutput> Line for TrunkLine<I, O> {
         self.first = None;
     }
 
-    fn read_on(&mut self, _kinds: &AcceptedKinds, _ending: RecordsEnd) -> Result<bool, RunFault> {
+    fn read_on(&mut self, _kinds: &AcceptedKinds, _ending: RecordsEnd) -> Result<bool, RunFault>
+        requires ends { end_of _kinds.now (held_in self.old.first self.old.room) ≡ Some _ending }
+        requires reads { CanCount self.old.source.failed }
+        ensures ok { IfOk result (λ came. ReadsOn
+            (source_told self.old.source.failed self.old.source.reads self.old.source.log.octets)
+            (source_told self.new.source.failed self.new.source.reads self.new.source.log.octets)
+            (holding self.old.first self.old.room self.old.reads_left)
+            (holding self.new.first self.new.room self.new.reads_left) _ending came) }
+        ensures fault { IfErr result (λ e. (e ≡ RunFault.Read) × FailsToRead
+            (source_told self.old.source.failed self.old.source.reads self.old.source.log.octets)
+            (source_told self.new.source.failed self.new.source.reads self.new.source.log.octets)
+            (holding self.old.first self.old.room self.old.reads_left)
+            (holding self.new.first self.new.room self.new.reads_left) _ending) }
+        ensures sink { self.new.sink ≡ self.old.sink }
+        ensures ended { IfOk result (λ came. came ≡ false → self.old.first ≡ None
+            → I.has_ended self.new.source.incoming) }
+        ensures fails { OnErr result ((self.old.reads_left ≡ 0)
+            ⊎ LacksRecord (I.has_failed self.new.source.incoming) (2 ^ 63 ≤ I.waits self.new.source.incoming)) }
+    {
         if self.first.is_some() {
             return Ok(false);
         }

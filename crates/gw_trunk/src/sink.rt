@@ -118,7 +118,7 @@ impl<O: TrunkOutput> TrunkRecordSink<O> {
             (told_by self.new.failed self.new.log.octets) octets.now result }
         ensures log { OnOk result (self.new.log.octets ≡ self.old.log.octets ++ octets.now) }
         ensures whole { OnOk result (self.old.cut ≡ false) }
-        ensures cut { OnErr result (self.new.log ≡ self.old.log) }
+        ensures cut { OnErr result ((self.old.cut ≡ true) × (self.new.log ≡ self.old.log)) }
     {
         if self.cut {
             return note_cut(&mut self.cut, &mut self.failed);
