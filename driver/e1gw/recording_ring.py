@@ -20,7 +20,7 @@ from .priority import run_last
 
 UNITS = {'s': 1, 'm': 60, 'h': 3600, 'd': 86400}
 FEWEST, MOST = 12, 360      # files into which the time that is kept is cut
-SHORT = 10.0                # seconds of a file, unless there are so few or so many
+SHORT = 10.0                # seconds of a file, if that makes no fewer and no more files than these
 MOST_EARLIER = MOST         # files of earlier sessions
 MOST_OWN = 2 * MOST         # of this one, whose programs may follow one another soon
 MOST_SLIPS = 1000           # that are noted for a file

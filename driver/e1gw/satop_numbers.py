@@ -41,7 +41,7 @@ class SatopBegun(NamedTuple):
     words: tuple[str, ...] = ()
     first: int | None = None
 
-    def put(self, path: str) -> None:
+    def write_to(self, path: str) -> None:
         put_file(f'{path}{ENDS}', json.dumps(self._asdict()).encode(), 0o640)
 
 

@@ -142,7 +142,7 @@ class EventFile:
         if bool(why) is not bool(before):
             self._stands(self._name, f'{why}: {self._file}' if why and isinstance(self._file, str) else why)
 
-    def put(self, line: str) -> None:
+    def write_line(self, line: str) -> None:
         """Has a line written. (One for which there is no room is not kept.)"""
         with self._changed:
             if has_room := len(self.waiting) < MOST_WAITING:

@@ -37,12 +37,12 @@ def run_periodically(seconds: float, work: Callable[[], object], what: str) -> I
     loop = asyncio.get_running_loop()
     timer: asyncio.Handle
 
-    def does() -> None:
+    def run_work() -> None:
         nonlocal timer
         with reporting_failures(what):
             work()
-        timer = loop.call_at(next_beat(seconds), does)
-    timer = loop.call_at(next_beat(seconds), does)
+        timer = loop.call_at(next_beat(seconds), run_work)
+    timer = loop.call_at(next_beat(seconds), run_work)
     try:
         yield
     finally:
@@ -83,10 +83,10 @@ def reporting_failures(what: str) -> Iterator[None]:
 
 def report_failure(work: Callable[P, object], what: str) -> Callable[P, None]:
     """The same work, whose failure is reported, and nothing else ends for it."""
-    def does(*words: P.args, **more: P.kwargs) -> None:
+    def reporting(*words: P.args, **more: P.kwargs) -> None:
         with reporting_failures(what):
             work(*words, **more)
-    return does
+    return reporting
 
 
 def log_failure(what: str, fault: Exception) -> None:

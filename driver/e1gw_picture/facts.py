@@ -117,7 +117,7 @@ class Spans:
     def value(self) -> Any:
         return self.items[-1][1]
 
-    def put(self, place: int, value: Any) -> None:
+    def set_from(self, place: int, value: Any) -> None:
         if self.items[1:] and self.items[-1][0] == place:
             self.items.pop()
         if not self.items or self.items[-1][1] != value:
@@ -135,7 +135,7 @@ class Spans:
             columns[column + 1] = value         # which holds behind it
         self.items.clear()
         for column, value in columns.items():
-            self.put(column * width, value)
+            self.set_from(column * width, value)
 
     def between(self, start: int, end: int) -> Iterator[tuple[int, int, Any]]:
         """Each value with its stretch, cut to these places."""
@@ -283,7 +283,7 @@ class Row:
         if place < BEGUN and len(self.states.items) == 1 and was == 'fault':
             self.states = Spans(state, RANK)
         else:
-            self.states.put(place, state)
+            self.states.set_from(place, state)
         if (state in OPEN) != (was in OPEN):
             self.stream = CallStream()
             self.numbers.begin()

@@ -38,7 +38,7 @@ class SpeechListener:
             stream.stretch = []
         stream.stretch.append(packet_of(datagram).payload)
         if len(stream.stretch) == STRETCH:
-            self.orders.put(row.number, place, row.codec, stream.stretch)
+            self.orders.queue(row.number, place, row.codec, stream.stretch)
             stream.stretch = None
 
     def trunk(self, octets: bytes, place: int) -> None:

@@ -37,7 +37,7 @@ class Orders:
         self.program, self.law, self.tell = program, law, tell
         self.waiting: dict[str, list[tuple[int, int, list[bytes]]]] = {}        # by codec
 
-    def put(self, circuit: int, place: int, codec: str, payloads: list[bytes]) -> None:
+    def queue(self, circuit: int, place: int, codec: str, payloads: list[bytes]) -> None:
         """A stretch of a circuit's datagrams from a place."""
         stretches = self.waiting.setdefault(codec, [])
         stretches.append((circuit, place, payloads))

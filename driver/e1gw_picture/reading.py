@@ -127,8 +127,8 @@ class SessionReading:
         octets = b''.join([record[HEAD:] for record in records if record[0] == TRUNK])[:size]
         self.place += size
         for run in ONES.finditer(octets) if ONES_OF_A_MULTIFRAME in octets else ():
-            facts.alarms['here', 'ones'].put(self.place - size + run.start(), True)
-            facts.alarms['here', 'ones'].put(self.place - size + run.end(), False)
+            facts.alarms['here', 'ones'].set_from(self.place - size + run.start(), True)
+            facts.alarms['here', 'ones'].set_from(self.place - size + run.end(), False)
         if size >= LEAST and not facts.alarms['here', 'frame'].value:
             self.listener.trunk(octets, self.place)
         self._take_reports()
@@ -190,7 +190,7 @@ class SessionReading:
         for ((where, what), spans), bit in zip(self.facts.alarms.items(), bits):
             if where == 'here' and bit == '1' and not spans.value:
                 self.facts.add_loss(what, self.changed)
-            spans.put(self.changed, bit == '1')
+            spans.set_from(self.changed, bit == '1')
 
     def line_told(self, circuit: str, _role: str, state: str, *rest: str) -> None:
         """A change of a line was told: its state, its bits both ways, and at the end its codec and payload type."""

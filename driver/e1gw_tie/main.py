@@ -120,7 +120,7 @@ def main() -> None:
     lines = EventFile('standard output', sys.stdout, lambda *_: None)
 
     def put_report(report: Report) -> None:
-        lines.put(json_line(report))
+        lines.write_line(json_line(report))
     try:
         pairs = read_map(options.map) if options.map else None
         wanted = TieOptions(options.control, pairs, options.hold, options.congestion == 'wait', options.until_answer)

@@ -48,7 +48,7 @@ class KeptInMemory(KeptBlocks):
         super().__init__('')
         self.now = BlockedCircuits().replace_all(circuits)
 
-    async def put(self, now: BlockedCircuits) -> str:
+    async def save(self, now: BlockedCircuits) -> str:
         self.now = now
         return ''
 
@@ -176,7 +176,7 @@ class Trunk:
     async def move_trunk(self, n: int) -> None:
         """The trunk moves to the machine that knew of another circuit, and was told of these."""
         other = KeptInMemory(frozenset((n,)))
-        await other.put(other.now.replace_all([*self.watch.kept.now.circuits]))
+        await other.save(other.now.replace_all([*self.watch.kept.now.circuits]))
         self.begin(other)
 
 
@@ -235,17 +235,17 @@ class KeptTests(support.FolderCase, unittest.IsolatedAsyncioTestCase):
     async def test_file(self) -> None:
         """The last one of several at once is in it; what is none, or cannot be written, ends nothing."""
         kept = KeptBlocks(self.path('blocked'))
-        told = await asyncio.gather(*(kept.put(BlockedCircuits().add(range(1, n))) for n in (3, 31, 5)))
+        told = await asyncio.gather(*(kept.save(BlockedCircuits().add(range(1, n))) for n in (3, 31, 5)))
         self.assertEqual((told, json.loads(support.text_of(self.path('blocked')))), ([''] * 3, [1, 2, 3, 4]))
         self.assertEqual([*KeptBlocks(self.path('blocked')).now.circuits], [1, 2, 3, 4])
         with mock.patch.object(os, 'fsync') as synced:
-            await kept.put(BlockedCircuits())
+            await kept.save(BlockedCircuits())
         self.assertTrue(synced.called, 'a crash of the machine empties the file')
         for octets in (b'', b'7', b'{"1": 2}', b'[1', b'[31, "a"]', b'\xff'):
             with mock.patch('e1gw.watcher.blocks.logger'):
                 self.assertEqual(KeptBlocks(self.write('bad', octets)).now.circuits, {}, octets)
         kept = KeptBlocks(self.path('none/blocked'))
-        self.assertRegex(await kept.put(BlockedCircuits()), 'none/blocked.*: No such file')
+        self.assertRegex(await kept.save(BlockedCircuits()), 'none/blocked.*: No such file')
 
 
 class BlockedTrunkTests(unittest.TestCase):

@@ -59,7 +59,7 @@ class CalledTrunk:
         self.counts, self.day = DatagramCounts(), 1_000_000_000.25
         self.open, self.wanted = dict[int, dict[str, str]](), list[dict[str, str]]()
         self.numbered = set[int]()              # circuits of whose calls it is known which they are
-        self.calls = CallLog('west', self.lines, self.counts, self.put, lambda: self.day)
+        self.calls = CallLog('west', self.lines, self.counts, self.write_line, lambda: self.day)
         self.takes(1, 4)
         self.calls.on_session_start('life')
         self.since = {n: self.numbers(n) for n in self.lines}
@@ -70,7 +70,7 @@ class CalledTrunk:
         its = self.counts.circuits[n]
         return [its.sent, its.admitted, its.numbers.count_lost, its.counts().get('Late', 0), its.discarded()]
 
-    def put(self, line: str) -> None:
+    def write_line(self, line: str) -> None:
         row = dict(zip(FIELDS, next(csv.reader([line]))))
         n, by = int(row['circuit']), row['by']
         found = self.before[n] if by == 'reload' else self.numbers(n)
@@ -134,7 +134,7 @@ class CalledTrunk:
         call there may be another one."""
         note = self.calls.note(0, 0, self.day, ())
         codecs, begun = {call.circuit: call.codec for call in note.calls}, set[int]()
-        self.calls = CallLog('west', self.lines, self.counts, self.put, lambda: self.day)
+        self.calls = CallLog('west', self.lines, self.counts, self.write_line, lambda: self.day)
         self.calls.restore_note(note)
         for (n, line), state in zip(self.lines.items(), states):
             was, line.state = line.state, state

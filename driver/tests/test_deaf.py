@@ -134,8 +134,8 @@ class DeafTrunkTests(DeafTrunkCase):
         self.assertEqual(self.discarded(later), ('0', '49', 'PayloadType'))
 
     async def test_the_next_call(self) -> None:
-        """The count begins anew with a call, also if nobody has looked between two calls. Packets that came between
-        them are in neither."""
+        """Each call begins its count at 0, also if nobody has looked between two calls. Packets that came between them
+        are in neither."""
         found, calls = await self.deaf(), list[Event]()
         setattr(found.client, 'report_event', found.report_event)
         setattr(found._deaf, '_tell', calls.append)

@@ -79,8 +79,8 @@ class ReceivedNumberTests(PropertyCase):
         self.assertEqual(found.count_lost, 4 + 1 + 999)
 
     def test_another_call(self) -> None:
-        """The numbers begin anew with a call, and packets that were lost before stay counted. Octets that are no RTP
-        have no number; a header alone has one."""
+        """A call begins new numbers, and packets lost before it stay counted. Octets without an RTP header have no
+        number; a header alone has one."""
         found = lost_of(5, 7)
         found.begin()
         take(found, 7, 60)

@@ -91,7 +91,7 @@ class FactsTests(unittest.TestCase):
     def test_spans_are_few_and_a_fault_stays_seen(self) -> None:
         spans = Spans('idle', RANK)
         for n in range(1, 1001):
-            spans.put(n * 100, 'fault' if n == 500 else 'answered' if n % 2 else 'idle')
+            spans.set_from(n * 100, 'fault' if n == 500 else 'answered' if n % 2 else 'idle')
         spans.coalesce(1000)
         self.assertLess(len(spans.items), 110)
         self.assertIn('fault', [value for _, value in spans.items])
@@ -163,7 +163,7 @@ def busy_page(count: int) -> str:
                 row.cell.admit(rng.randrange(0, 3000))
             row.cell.refuse(rng.choice((11, 12, 13, 14, 16, 20)), -400, rng.randrange(-400, 3200))
             facts.command(row.number, place, 'seize', rng.choice(('', 'not idle')))
-        facts.alarms['here', 'frame'].put(place, rng.random() < 0.5)
+        facts.alarms['here', 'frame'].set_from(place, rng.random() < 0.5)
     return draw(facts, 'a day')
 
 

@@ -123,7 +123,7 @@ class WordOrderTests(unittest.TestCase):
         whole = HeardSamples()
         orders = Orders(path, 'A', lambda circuit, place, seen: whole.join(seen))
         for at in range(0, len(payloads), 10):
-            orders.put(3, at, codec, payloads[at:at + 10])
+            orders.queue(3, at, codec, payloads[at:at + 10])
         orders.decode_queued()
         return whole
 

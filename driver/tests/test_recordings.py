@@ -73,7 +73,7 @@ class RecordingTests(support.LoopCase):
         path = self.write('kept', 'noted more')
         left = RecordingNote(path, None, '', (), path, 0, 5, 5, 5)
         its = self.recording(path, left)
-        its.put(b' octets', 12, 9)
+        its.record(b' octets', 12, 9)
         await its.wait_until_written(12, SECONDS)
         await asyncio.to_thread(its.close)
         self.assertEqual((support.text_of(path), its.is_over()), ('noted octets', True))
@@ -92,7 +92,7 @@ class RecordingTests(support.LoopCase):
         with mock.patch.object(recordings, 'MOST_BEHIND', 150):
             its = self.recording(path, RecordingNote(path, None, '', (), path, 0, 0, 0, 0))
             for place in 99, 198:
-                its.put(bytes(99), place, place)
+                its.record(bytes(99), place, place)
                 await its.wait_until_written(place, SECONDS)
             await asyncio.to_thread(its.close)
         self.assertEqual((its.why, os.path.getsize(path)), ('', 198))
@@ -117,13 +117,13 @@ class RecordingTests(support.LoopCase):
             its = self.recording(path, None)
             self.assertEqual(its.note(7), RecordingNote(path, None, '', (), '', 7, 0, 0, 0))
             with mock.patch.object(its, '_write'):
-                its.put(bytes(99), 99, 99)
+                its.record(bytes(99), 99, 99)
                 self.assertEqual(its.why, '')
                 for _ in range(2):
-                    its.put(b'x', 100, 100)
+                    its.record(b'x', 100, 100)
                 await its.wait_until_written(200, SECONDS)
                 await asyncio.to_thread(its.close)
-        its.put(b'x', 101, 101)
+        its.record(b'x', 101, 101)
         self.assertFalse(its._waiting)
         self.assertEqual([each.getMessage() for each in told.records],
                          [f'session ended, the calls go on: it takes too little: {path}'])

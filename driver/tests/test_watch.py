@@ -184,7 +184,7 @@ class WatchEdgeTests(TrunkWatchCase):
         for role, lines in (MachineRole.STANDBY, 0), (MachineRole.ACTIVE, 1):
             found = self.watched(pair=PairStatus(role, True, 0.0))
             assert found._calls
-            with mock.patch.object(found._calls, 'put') as put:
+            with mock.patch.object(found._calls, 'write_line') as put:
                 found._put_call('a line')
             self.assertEqual(put.call_count, lines)
 

@@ -56,14 +56,14 @@ class NoteFilesTests(support.FolderCase):
         """The one before it is whole: they are written in turn. What is there is not written again."""
         files, notes = NoteFiles(self.folder), [self.path(name) for name in ('note.0', 'note.1')]
         for text in b'one', b'two', b'three':
-            files.put(text)
+            files.write_text(text)
         self.assertEqual([NoteFiles(self.folder).read(), *sorted(os.listdir(self.folder))],
                          [b'three', 'note.0', 'note.1'])
         os.utime(notes[0], (0, 0))
-        files.put(b'three')
+        files.write_text(b'three')
         self.assertEqual(os.stat(notes[0]).st_mtime, 0)
         os.unlink(notes[0])
-        files.put(b'three')
+        files.write_text(b'three')
         os.truncate(notes[0], 28)           # (a head has 24 octets)
         self.assertEqual(NoteFiles(self.folder).read(), b'three')
         os.truncate(notes[1], 28)

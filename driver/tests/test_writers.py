@@ -23,9 +23,9 @@ class LineFileTests(support.FolderCase):
 
     def test_a_fifo_that_somebody_reads_in_time(self) -> None:
         file = EventFile('json', self.fifo, lambda what, why: self.ended.append(why))
-        file.put('abc')
+        file.write_line('abc')
         with open(self.fifo, 'rb') as reads:
-            file.put('def')
+            file.write_line('def')
             self.assertEqual(reads.read(8), b'abc\ndef\n')
             file.close()
         self.assertEqual(self.ended, [])
@@ -54,7 +54,7 @@ class LineFileTests(support.FolderCase):
             with self.subTest(path):
                 self.ended.clear()
                 file = EventFile('json', path, lambda what, why: self.ended.append(why))
-                file.put('abc')
+                file.write_line('abc')
                 support.until(lambda: self.ended)
                 self.assertEqual(self.ended, [f'{why}: {path}'])
                 file.close()
@@ -72,11 +72,11 @@ class LineFileTests(support.FolderCase):
             raise OSError(errno.ENOSPC, 'No space left on device')
         with mock.patch.object(os, 'write', write), mock.patch.object(line_files, 'AGAIN', 0.01):
             file = EventFile('calls', path, lambda name, why: ended.append(why), 'head')
-            file.put('line 1')
+            file.write_line('line 1')
             support.until(lambda: not file.waiting)
             is_full = True
-            file.put('line 2')
-            file.put('line 3')
+            file.write_line('line 2')
+            file.write_line('line 3')
             for _ in range(3):
                 tried.acquire()
             support.until(lambda: support.text_of(path) == 'head\nline 1\n')
@@ -87,7 +87,7 @@ class LineFileTests(support.FolderCase):
             self.assertEqual(ended[1:], [None])
         with mock.patch.object(os, 'write', write):
             is_full = True
-            file.put('line 4')
+            file.write_line('line 4')
             support.until(lambda: ended[2:])
             file.close()
         self.assertEqual(([*file.waiting], file._thread.is_alive()), (['line 4'], False))
@@ -96,7 +96,7 @@ class LineFileTests(support.FolderCase):
         """What has failed is tried once more."""
         os.mkdir(path := self.path('calls'))
         file = EventFile('calls', path, lambda what, why: self.ended.append(why), 'head')
-        file.put('line')
+        file.write_line('line')
         support.until(lambda: self.ended)
         os.rmdir(path)
         file.close()
@@ -107,8 +107,8 @@ class LineFileTests(support.FolderCase):
         reads, writes = os.pipe()
         with open(reads, 'rb') as taken, open(writes, 'w', encoding='utf-8') as stream:
             file = EventFile('json', stream, lambda what, why: self.ended.append(why))
-            file.put('line 1')
-            file.put('line 2')
+            file.write_line('line 1')
+            file.write_line('line 2')
             self.assertEqual(taken.read(14), b'line 1\nline 2\n')
             file.close()
             self.assertEqual((stream.closed, self.ended), (False, []))
@@ -118,7 +118,7 @@ class LineFileTests(support.FolderCase):
         with mock.patch.object(line_files, 'MOST_WAITING', 3):
             file = EventFile('json', '/dev/full', lambda what, why: self.ended.append(why))
             for number in range(5):
-                file.put(f'{number}')
+                file.write_line(f'{number}')
             self.assertEqual([*file.waiting], ['0', '1', '2'])
             file.close()
 
@@ -127,7 +127,7 @@ class LineFileTests(support.FolderCase):
         ended: list[str | None] = []
         file = EventFile('calls', self.path('calls'), lambda name, why: ended.append(why), 'head')
         for number in range(3):
-            file.put(f'line {number}')
+            file.write_line(f'line {number}')
             support.until(lambda: os.path.exists(self.path('calls'))
                           and support.text_of(self.path('calls')).endswith(f'line {number}\n'))
             if number == 0:
@@ -146,7 +146,7 @@ class LineFileTests(support.FolderCase):
             with mock.patch.object(line_files, 'MOST_OCTETS', len(head) + 25):
                 file = EventFile(kind, self.path(kind), lambda _, why: self.fail(why), head.strip())
                 for number in range(10, 40):
-                    file.put(f'line of {number}')
+                    file.write_line(f'line of {number}')
                 file.close()
             names = sorted(name for name in os.listdir(self.folder) if name.startswith(kind))
             self.assertEqual(names, [kind, *(f'{kind}.{n}' for n in range(1, KEPT + 1))])

@@ -40,8 +40,8 @@ WasKilledSo life =
     ⊎ (WasServed life.start.gateway life.start.opened life.start.log life.start.calls
     × ((records : List Record) → AreLogged life.start.log life.start.calls records → WasCut life records))
 
--- What a start gave out that has logged this: nothing, if it was killed in its first checkpoint; or the first
--- of what answers the inputs of its session, behind all that the starts before have logged.
+-- What a start gave out that has logged this. It gave nothing if it was killed in its first checkpoint. Else it gave
+-- the first of the answers to the inputs of its session, which follow all that earlier starts have logged.
 abbrev pub HasDone : GatewayConfig → List Event → Life → List Event → Type 0
 HasDone config before life logged =
     (HasLogged life.start logged × HalfCheckpointed life.start.opened life.start.log life.start.gateway

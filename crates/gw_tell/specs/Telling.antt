@@ -75,7 +75,7 @@ pub record LetsIn (gateway : Gateway) (t t' : Teller) : Type 0 where
   pub all : LetAllIn gateway streams t last
   pub ends : ((length streams ≡ 8) × (t' ≡ last)) ⊎ ((length streams < 8) × AsksDoor last t')
 
--- clients are looked at behind a record of the trunk: behind each of the first 8,192 octets, then once in so many
+-- a record of the trunk after which clients are looked for: each one in the first 8,192 octets, then one in 8,192
 abbrev pub IsLook : Record → ℕ → Teller → Type 0
 IsLook (Record.Trunk octets) before t = (before < 8192) ⊎ (before / 8192 ≢ t.place / 8192)
 IsLook _ before t = ⊥

@@ -82,7 +82,7 @@ class SatopLine(HeldLine):
         self._lacked, self._restarts = not can_send(self._words), self._restarts.with_one(now)
         said, far = open_said(self._path), self.files[self.writes]
         with suppress(OSError):
-            SatopBegun(self.options.satop, (*self._words,), number).put(self._path)
+            SatopBegun(self.options.satop, (*self._words,), number).write_to(self._path)
         try:
             pid = spawned(self.options.program, ['e1gw', 'satop', *self._words, '--sequence', str(number)],
                           zip((far, far, said), range(3)))

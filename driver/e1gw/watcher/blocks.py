@@ -98,7 +98,7 @@ class KeptBlocks:
         except (OSError, ValueError, TypeError) as fault:
             logger.error('which circuits the operator has blocked is not known: %s', words_of_fault(fault, path))
 
-    async def put(self, now: BlockedCircuits) -> str:
+    async def save(self, now: BlockedCircuits) -> str:
         """This is so from now on. Why it is not kept; nothing if it is."""
         self.now = now
         if not self._writing or self._writing.done():
@@ -198,5 +198,5 @@ class BlockWatch:
         return (DONE if its or blocked else refused(NOT_BLOCKED.words))._replace(told=(*told,))
 
     async def _kept(self, now: BlockedCircuits) -> list[str]:
-        fault = await self.kept.put(now)
+        fault = await self.kept.save(now)
         return [f'not kept: {fault}'] * bool(fault)

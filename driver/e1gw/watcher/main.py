@@ -135,7 +135,7 @@ class Watcher:
             text = WatchNote(self._trunk.noted(), reader.noted(), watch.client.counts_told(), watch.page_notes(),
                              blocks, watch.codecs.given, reader.recording_note(), watch.client.calls_note()).text()
             try:
-                self._notes.put(text)
+                self._notes.write_text(text)
             except FileNotFoundError:           # (the trunk has ended, or its folder is made again)
                 self._make_folder()
 

@@ -33,7 +33,7 @@ class NoteFiles:
         """What was noted last; nothing if there is no note."""
         return max(map(self._read, (0, 1)))[1]
 
-    def put(self, text: bytes) -> None:
+    def write_text(self, text: bytes) -> None:
         """Notes this, unless it is there. OSError if it does not go: then what was noted before is there."""
         if text == self._text and all(map(os.path.exists, self._paths)):
             return

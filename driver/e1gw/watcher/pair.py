@@ -220,7 +220,7 @@ class TrunkPair:
     def _on_peer_block(self, circuits: list[int]) -> None:
         """The operator has blocked these at the other machine."""
         kept = self._trunk.blocks()
-        self._tasks.begin(kept.put(kept.now.replace_all(circuits)))
+        self._tasks.begin(kept.save(kept.now.replace_all(circuits)))
 
     def _is_standby(self) -> bool:
         """Whether it stands by: it is active until its program has ended."""

@@ -220,7 +220,7 @@ class LogReader:
             self.took(news.octets)
             self.log.place = news.place + len(news.octets)
             if self._recording and self._begun is not None:
-                self._recording.put(news.octets, self.log.place, self.octets)
+                self._recording.record(news.octets, self.log.place, self.octets)
             return
         if isinstance(news, LogBegun):
             self._on_overtaken(news, octets_in(behind), written)

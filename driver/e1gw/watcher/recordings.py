@@ -107,7 +107,7 @@ class TrunkRecording:
         """Another file begins, behind what was put before."""
         self._waiting.append(begin)
 
-    def put(self, octets: bytes, place: int, trunk: int) -> None:
+    def record(self, octets: bytes, place: int, trunk: int) -> None:
         """Records, up to a place of the log and an octet of the trunk."""
         if self.why:
             return

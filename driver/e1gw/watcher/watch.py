@@ -178,7 +178,7 @@ class TrunkWatch:
         self.client.restore_note(note)
         for line in note.lines:
             if self._calls and self.wants.calls and not has_line(self.wants.calls, line):
-                self._calls.put(line)
+                self._calls.write_line(line)
 
     def page_notes(self) -> ShownNote:
         """What pages show beside the status."""
@@ -202,7 +202,7 @@ class TrunkWatch:
         if not (pair and pair.stands_by):
             self._ended_calls.appendleft(line)
             if self._calls:
-                self._calls.put(line)
+                self._calls.write_line(line)
 
     # ---- reports ----
 
@@ -234,7 +234,7 @@ class TrunkWatch:
         for peer in self._server.followers():
             peer.send_line(text)
         if self._json:
-            self._json.put(text)
+            self._json.write_line(text)
 
     def on_clock_finding(self, finding: ClockFinding) -> None:
         """What was found of the flow: octets that were lost or came too early, or another rate."""
