@@ -74,8 +74,10 @@ class TrunkRate:
             lows.popleft()
         if now - lows[0][0] < LEAST:
             return False
-        middle = (lows[0][0] + now) / 2
-        before, since = ([low for low in lows if (low[0] >= middle) is is_since] for is_since in (False, True))
+        # (As many seconds of each, without the one that begins now: a fast trunk is least late at their ends.)
+        half = (len(lows) - 1) // 2
+        whole = [*lows][-1 - 2 * half:-1]
+        before, since = whole[:half], whole[half:]
         more = min(low for _, low in since) - min(low for _, low in before)
         self.ratio = 1 - more / (since[0][0] - before[0][0])
         was, self.is_wrong = self.is_wrong, abs(more) > APART

@@ -46,7 +46,7 @@ from .trunk_files import TrunkFiles
 
 # (What takes a while to be read is imported where it is used.)
 ASKING = ('status', 'events', 'help', 'metrics', 'role')
-SEVERAL = ('seize', 'clear', 'answer', 'clear-back', 'block', 'unblock', 'codec')
+SEVERAL = ('seize', 'clear', 'answer', 'clear-back', 'block', 'unblock', 'codec', 'status')
 AT_ONCE = ('block', 'unblock')          # .. of which the trunk takes several at once
 
 # The commands that have these options.
@@ -231,7 +231,7 @@ def next_words(parsed_args: argparse.Namespace, **_: object) -> list[str]:
         return [name for name, _ in trunks_here()]
     match words[not parsed_args.all:]:
         case []:
-            return [*SEVERAL, 'wait', 'why', 'report', 'status', 'calls', 'outages', 'events', 'role', 'promote',
+            return [*SEVERAL, 'wait', 'why', 'report', 'calls', 'outages', 'events', 'role', 'promote',
                     'demote', 'move', 'reload', 'quit', 'help']
         case ['status']:
             return ['json', *circuits]

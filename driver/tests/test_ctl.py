@@ -37,7 +37,9 @@ class CtlWordTests(unittest.TestCase):
                               ('seize x-3', ['seize x-3']), ('seize 1-999999', ['seize 1-999999']),
                               ('block 1-3,7 now', ['block 1-3 now', 'block 7 now']), ('unblock 3', ['unblock 3']),
                               ('block 1-2 auto', ['block 1 auto', 'block 2 auto']),
-                              ('seize', ['seize']), ('status', ['status']), ('on-loss clear 3', ['on-loss clear 3'])):
+                              ('seize', ['seize']), ('status', ['status']), ('status json', ['status json']),
+                              ('status 1-2,7', ['status 1', 'status 2', 'status 7']),
+                              ('on-loss clear 3', ['on-loss clear 3'])):
             self.assertEqual(ctl.each_circuit(command), each)
 
         for word, circuits in (('1-3', 3), ('98-99', 2), ('1-999', 999), ('001-3', 3), ('1-9999', 1), ('12345', 1),
