@@ -330,13 +330,11 @@ def whole_records(octets: bytes) -> tuple[int, int]:
 def records_for(circuit: int, octets: bytes, also: Kind | None = None) -> tuple[int, int, bytes]:
     """The same, and those of the records that concern a circuit: its own, the trunk's, and of others those of a kind.
     (Nothing that is given to another circuit changes what becomes of this one.)"""
-    at, trunk, own, since, unpack, size = 0, 0, list[bytes](), 0, HEAD.unpack_from, HEAD.size
-    most = len(octets)
-    last = most - size
+    at, trunk, own, since, unpack, last = 0, 0, list[bytes](), 0, HEAD.unpack_from, len(octets) - HEAD.size
     while at <= last:
         kind, its, length = unpack(octets, at)
-        end: int = at + size + length
-        if end > most:
+        end: int = at + HEAD.size + length
+        if end > len(octets):
             break
         if not its:
             trunk += length

@@ -4,12 +4,13 @@ from __future__ import annotations
 import itertools
 from collections.abc import Iterator
 from dataclasses import dataclass
+from statistics import median
 
 from e1gw_common.g711 import NAMES, OTHER
 from e1gw_common.lines import OPEN, REMOTE
 from e1gw_common.session import name_of
 from .facts import NOT_OPEN, SECOND, Answer, Cell, Facts, Row
-from .slopes import Points, Step, median, points, slope, steps
+from .slopes import Points, Step, points, slope, steps
 from .svg import Scale, duration
 
 RATE = 20_000               # parts in a million above which it is no difference of clocks
@@ -127,7 +128,7 @@ def _steps(facts: Facts, scale: Scale, found: dict[int, list[Step]]) -> Iterator
         every = every[len(near):]
         talking = sum(any(first <= place < last and state in OPEN for first, last, state in
                           facts.rows[number].states.between(0, facts.place)) for number in found)
-        circuits, ahead = len({number for _, number, _ in near}), median([samples for *_, samples in near])
+        circuits, ahead = len({number for _, number, _ in near}), median(samples for *_, samples in near)
         if circuits > 1 and circuits * 2 >= talking and ahead > 0:
             gaps.append((place, ahead, circuits))
             continue

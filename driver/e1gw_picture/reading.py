@@ -4,10 +4,8 @@ from __future__ import annotations
 import re
 from collections import deque
 from collections.abc import Callable, Iterable, Iterator
-from dataclasses import dataclass, field
 
 from e1gw_common.lines import SEIZURE_WAIT, TrunkConfig, read_config
-from e1gw_common.session import HEAD as RECORD_HEAD
 from e1gw_common.session import MULTIFRAME, OCTETS_A_SECOND, Codec, Command, Kind, refusal_of, trunk_record
 from e1gw_common.session_files import InputError
 from .beginning import Begun
@@ -65,16 +63,6 @@ def records_of(octets: Iterable[bytes], most: int = PIECE) -> Iterator[bytes]:
         yield held
 
 
-@dataclass(slots=True)
-class RecordBatch:
-    """Records that are given at once: as they are, how many, and what is in those of the trunk and in datagrams."""
-
-    given: list[bytes] = field(default_factory=list)
-    count: int = 0
-    trunk: list[bytes] = field(default_factory=list)
-    datagrams: list[bytes] = field(default_factory=list)
-
-
 class SessionReading:
     """A session while it is read. It begins at a place of the trunk, with the gateway as reported. `only` is the
     circuit whose packets are counted, if it is one alone: that is read in coarse pieces."""
@@ -107,54 +95,36 @@ class SessionReading:
     def read(self, octets: Iterable[bytes], reached: Callable[[int], None] = lambda place: None) -> None:
         """Reads all, or up to a record that the program refuses. While some records are looked at, the program has the
         next ones. `reached` is called with the place."""
-        before = RecordBatch()
+        before: list[bytes] = []
         try:
-            for batch in self._batches(octets):
-                self.came += batch.datagrams
-                self.replay.put_octets(b''.join(batch.given))
+            for records in self._batches(octets):
+                self.came += [record[HEAD:] for record in records if record[0] == DATAGRAM]
+                self.replay.put_octets(b''.join(records))
                 if not self._take_records(before):
                     return
-                before = batch
+                before = records
                 reached(self.place)
             self.replay.put_octets(b'')
             self._take_records(before)
         finally:
             self.listener.orders.decode_queued()
 
-    def _batches(self, octets: Iterable[bytes]) -> Iterator[RecordBatch]:
-        """All records, some at a time: in a long session more than in a short one. The last one may be cut."""
-        batch, left, most, held, unpack = RecordBatch(), self._least, self._piece, b'', RECORD_HEAD.unpack_from
-        for piece in octets:
-            held += piece
-            at = since = 0
-            while at + HEAD <= len(held):
-                kind, _, length = unpack(held, at)
-                if (end := at + HEAD + length) > len(held):
-                    break
-                if kind == TRUNK and length > most:
-                    held = held[:at] + b''.join(records_of([held[at:]], most))
-                    continue
-                if kind == TRUNK:
-                    batch.trunk.append(held[at + HEAD:end])
-                    left -= length
-                elif kind == DATAGRAM:
-                    batch.datagrams.append(held[at + HEAD:end])
-                batch.count += 1
-                at = end
-                if left <= 0 or kind != TRUNK and batch.count >= RECORDS:
-                    batch.given.append(held[since:at])
-                    yield batch
-                    since, batch, left = at, RecordBatch(), min(max(self.facts.width, self._least), MOST)
-            batch.given.append(held[since:at])
-            held = held[at:]
-        batch.given.append(held)
-        batch.count += bool(held)
-        yield batch
+    def _batches(self, octets: Iterable[bytes]) -> Iterator[list[bytes]]:
+        """All records, some at a time: in a long session more than in a short one."""
+        records, left = list[bytes](), self._least
+        for record in records_of(octets, self._piece):
+            records.append(record)
+            if record[0] == TRUNK:
+                left -= len(record) - HEAD
+            if left <= 0 or record[0] != TRUNK and len(records) >= RECORDS:
+                yield records
+                records, left = [], min(max(self.facts.width, self._least), MOST)
+        yield records
 
-    def _take_records(self, batch: RecordBatch) -> bool:
+    def _take_records(self, records: list[bytes]) -> bool:
         """What became of records; returns whether all were answered."""
-        facts, (size, whole) = self.facts, self._answered(batch.count)
-        octets = b''.join(batch.trunk)[:size]
+        facts, (size, whole) = self.facts, self._answered(len(records))
+        octets = b''.join([record[HEAD:] for record in records if record[0] == TRUNK])[:size]
         self.place += size
         for run in ONES.finditer(octets) if ONES_OF_A_MULTIFRAME in octets else ():
             facts.alarms['here', 'ones'].set_from(self.place - size + run.start(), True)
@@ -171,24 +141,24 @@ class SessionReading:
     def _answered(self, asked: int) -> tuple[int, bool]:
         """Reads the answers to this many records, and counts the datagrams sent before them. Returns the octets of the
         trunk among them, and whether all came."""
-        held, at, size, sent, unpack = self.answers, 0, 0, self.sent, RECORD_HEAD.unpack_from
-        last = len(held) - HEAD
+        held, at, size, sent = self.answers, 0, 0, self.sent
+        end = len(held)
         while asked:
-            if at <= last:
-                kind, circuit, length = unpack(held, at)
-                if (end := at + HEAD + length) <= last + HEAD:
-                    if kind == DATAGRAM:
-                        sent[circuit] += 1
-                    else:
-                        asked -= 1
-                        if kind == TRUNK:
-                            size += length
-                    at = end
-                    continue
-            if not (piece := self.replay.read_answers()):
-                break
-            held, at = held[at:] + piece, 0
-            last = len(held) - HEAD
+            if at + HEAD > end or (after := at + HEAD + (held[at + 2] << 8 | held[at + 3])) > end:
+                piece = self.replay.read_answers()
+                if not piece:
+                    break
+                held, at = held[at:] + piece, 0
+                end = len(held)
+                continue
+            kind = held[at]
+            if kind == DATAGRAM:
+                sent[held[at + 1]] += 1
+            else:
+                asked -= 1
+                if kind == TRUNK:
+                    size += after - at - HEAD
+            at = after
         self.answers = held[at:]
         return size, not asked
 

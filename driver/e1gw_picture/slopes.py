@@ -1,8 +1,8 @@
 """How early datagrams arrive, as points over time: steps, and straight lines through them."""
 from __future__ import annotations
 
-from collections.abc import Collection
 from dataclasses import dataclass
+from statistics import fmean, linear_regression, median
 
 from e1gw_common.session import FRAME
 from .facts import SECOND, Row
@@ -18,18 +18,6 @@ class Step:
     """Datagrams suddenly arrive earlier by this number of samples, or later if it is negative."""
     place: int
     samples: float
-
-
-# (The module statistics takes longer to be read than all points of a call to be looked at.)
-def mean(values: Collection[float]) -> float:
-    """The arithmetic mean."""
-    return sum(values) / len(values)
-
-
-def median(values: Collection[float]) -> float:
-    """The value in the middle, or the mean of two."""
-    each, half = sorted(values), len(values) // 2
-    return each[half] if len(each) % 2 else (each[half - 1] + each[half]) / 2
 
 
 def points(row: Row, width: int) -> list[Points]:
@@ -54,7 +42,7 @@ def _thinned(part: Points) -> Points:
     """At most this number of points, each the mean of neighbours."""
     each = -(-len(part) // POINTS)
     groups = [part[n:n + each] for n in range(0, len(part), each)]
-    return [(mean([x for x, _ in group]), mean([y for _, y in group])) for group in groups]
+    return [(fmean(x for x, _ in group), fmean(y for _, y in group)) for group in groups]
 
 
 def steps(part: Points) -> list[Step]:
@@ -73,7 +61,6 @@ def steps(part: Points) -> list[Step]:
 def slope(part: Points) -> tuple[float, float, float]:
     """Of the straight line through points: parts in a million, its total change, and the points' distance from it, in
     samples."""
-    middle, height = mean([x for x, _ in part]), mean([y for _, y in part])
-    gain = sum((x - middle) * (y - height) for x, y in part) / sum((x - middle) ** 2 for x, _ in part)
-    away = mean([(y - height - gain * (x - middle)) ** 2 for x, y in part]) ** 0.5
+    gain, first = linear_regression(*zip(*part))
+    away = fmean((y - first - gain * x) ** 2 for x, y in part) ** 0.5
     return gain * FRAME * 1e6, gain * (part[-1][0] - part[0][0]), away
