@@ -9,7 +9,7 @@ use gw_report::{ProgramFault, print_result, reason_at};
 use gw_session::{RunFault, Totals};
 use gw_switch::Gateway;
 use gw_tell::Teller;
-use gw_udp::{Descriptors, OpenFault, Resting, SourceFilter, SystemSocket, UdpPorts};
+use gw_udp::{Descriptors, OpenFault, SourceFilter, SystemSocket, UdpPorts};
 use std::fs::File;
 use std::net::Net;
 use std::rt::Files;
@@ -18,7 +18,7 @@ use std::rt::Files;
 const MOST_OCTETS: u64 = 65_537;
 
 // The sockets of the circuits.
-type Ports = UdpPorts<Resting<SystemSocket>>;
+type Ports = UdpPorts<SystemSocket>;
 
 /// The ports that receive and send the datagrams of the circuits.
 pub type SessionPorts = Repeating<Ports>;

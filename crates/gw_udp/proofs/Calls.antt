@@ -36,14 +36,14 @@ asked_called receives sends first circuit old new (Err fault) room some own othe
 
 -- .. or it was held back, and found none
 pub receive_called : {S : Type 0} (receives : Received S) (sends : Sent S) (first : Option SocketAddr)
-    (circuit : ℕ) (enough : Type 0) (old new : List (Option (Endpoint S))) (r : Result (Option ℕ) PortFault)
-    (room : List ℕ) → 1 ≤ circuit → (enough → r ≡ Ok None)
-    → EndpointReceives receives first circuit old new r room ⊎ (enough × (new ≡ old))
+    (circuit : ℕ) (old new : List (Option (Endpoint S))) (r : Result (Option ℕ) PortFault)
+    (room : List ℕ) → 1 ≤ circuit
+    → EndpointReceives receives first circuit old new r room ⊎ ((r ≡ Ok None) × (new ≡ old))
     → KeepsOthers circuit old new → HasCalledOne receives sends (receive_call circuit r room) old new
-receive_called receives sends first circuit enough old new r room some none (inl own) others =
+receive_called receives sends first circuit old new r room some (inl own) others =
     asked_called receives sends first circuit old new r room some own others
-receive_called receives sends first circuit enough old new r room some none (inr held) others =
-    rw (none held.0, held.1) (record { some = some; own = λ d. inr refl; others = λ i d other. refl })
+receive_called receives sends first circuit old new r room some (inr none) others =
+    rw (none.0, none.1) (record { some = some; own = λ d. inr refl; others = λ i d other. refl })
 
 -- a send of a circuit was a call at its own socket
 pub send_called : {S : Type 0} (receives : Received S) (sends : Sent S) (circuit : ℕ)

@@ -3,3 +3,4 @@ pub mod Opening
 pub mod Receiving
 pub mod Noting
 pub mod Looks
+pub mod Resting

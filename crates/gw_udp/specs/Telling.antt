@@ -1,7 +1,7 @@
 -- What the sockets of circuits report.
-use Rattle.std.specs.Prelude.{◌≡◌, Bool, List, flat_map, replicate, Some, None}
+use Rattle.std.specs.Prelude.{◌≡◌, flat_map, replicate, Some, None}
 use Rattle.gw_records.specs.Ports.{PortsState, given_by_call, taken_by_call}
-use Rattle.gw_udp.specs.Ready.{AsksSystem}
+use Rattle.gw_udp.specs.Resting.{AsksSystem}
 use Rattle.gw_udp.specs.Udp.{addresses_of}
 use Rattle.gw_udp.specs.declared.udp.UdpPorts.{UdpPorts}
 
@@ -19,8 +19,7 @@ told ports = record {
 }
 
 -- Sockets have looked: the system was asked what came to them, and none gave an octet since.
-pub record HasLooked {S : Type 0} {m : _} (ports : UdpPorts S m) : Type 0 where
-  pub came : List Bool
-  pub asked : AsksSystem came ports.readiness.came
+pub record HasLooked {S : Type 0} {m : _} (before ports : UdpPorts S m) : Type 0 where
+  pub asked : AsksSystem before.readiness.rests ports.readiness.rests
   pub cleared : ports.given.counts ≡ replicate 30 0
   pub from_here : ports.at_look.value.calls ≡ ports.log.calls

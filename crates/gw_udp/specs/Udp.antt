@@ -90,19 +90,6 @@ abbrev pub EndpointReceives : {S : Type 0} → Received S → Option SocketAddr 
 EndpointReceives {S} receives first c old new r room = (d : Option (Endpoint S))
     → ReceivesAt receives first (slice_index_or old (c - 1) d) (slice_index_or new (c - 1) d) r room
 
--- the socket of one circuit rested, if there is one
-abbrev pub RestsAt : {S : Type 0} → (S → S → Type 0) → Option (Endpoint S) → Option (Endpoint S) → Type 0
-RestsAt rested None new = new ≡ None
-RestsAt rested (Some e) None = ⊥
-RestsAt rested (Some e) (Some f) =
-    (f.here ≡ e.here) × (f.peer ≡ e.peer) × (f.senders ≡ e.senders) × rested e.socket f.socket
-
--- .. that of circuit c
-abbrev pub EndpointRests : {S : Type 0} → (S → S → Type 0) → ℕ → List (Option (Endpoint S))
-    → List (Option (Endpoint S)) → Type 0
-EndpointRests {S} rested c old new = (d : Option (Endpoint S))
-    → RestsAt rested (slice_index_or old (c - 1) d) (slice_index_or new (c - 1) d)
-
 -- the send of one circuit: it went to the circuit's peer, or nowhere without a socket
 abbrev pub SendsAt : {S : Type 0} → Sent S → Option (Endpoint S) → Option (Endpoint S) → List ℕ
     → Result (Unit {0}) PortFault → Type 0

@@ -1,6 +1,6 @@
 //! The trait of a non-blocking datagram socket (`Socket`).
 
-ghost use Rattle.std.specs.Prelude.{◌≡◌, ◌≤◌, List, ℕ, length, Ok, None, IfOk, IfSome, IsTrue, IsFalse, ⊤};
+ghost use Rattle.std.specs.Prelude.{◌≤◌, length, IfOk, IfSome, ⊤};
 ghost use Rattle.gw_udp.specs.Socket.{Received, ReceivesAny, Sent};
 
 use gw_records::PortFault;
@@ -14,12 +14,6 @@ use std::net::{Net, SocketAddr};
 pub trait Socket: Drop {
     /// Relates a socket before and after a receive, the answer, and the room afterwards.
     ghost receives: { Received Self } = { λ _ _ _ _. ⊤ };
-
-    /// .. that asked the system.
-    ghost asks: { Received Self } = { λ _ _ _ _. ⊤ };
-
-    /// Relates a socket before and after a receive that did not ask the system.
-    ghost rested: { Self → Self → Type 0 } = { λ _ _. ⊤ };
 
     /// Relates a socket before and after a send, the destination, the datagram, and the answer.
     ghost sends: { Sent Self } = { λ _ _ _ _ _. ⊤ };
@@ -50,27 +44,17 @@ pub trait Socket: Drop {
     /// Has the system say to this poll what comes to the socket, by this token. False if it does not.
     fn watch(&mut self, poll: &Poll, token: Token) -> bool;
 
-    /// Whether a receive now finds none without asking the system. If so, this was that receive. `came` is
-    /// whether the system has said that something came.
-    fn rests(&mut self, came: bool) -> bool
-        ensures rests { IsTrue result → (room : List ℕ) → receives self.old self.new (Ok None) room }
-        ensures rested { IsTrue result → rested self.old self.new }
-        ensures stays { IsFalse result → self.new ≡ self.old }
-        ensures asks { IsTrue came → IsFalse result };
-
     /// Receives the first datagram that waits into the front of `room`, and returns its length, in octets,
     /// and its sender. None if none waits.
     fn receive(&mut self, room: &mut [u8]) -> Result<Option<(usize, SocketAddr)>, PortFault>
         ensures bound { IfOk result (λ got. IfSome got (λ g. g.0 ≤ length room.new)) }
-        ensures receives { receives self.old self.new result room.new }
-        ensures asks { asks self.old self.new result room.new };
+        ensures receives { receives self.old self.new result room.new };
 
     /// Receives the first datagram that waits, as [`receive`](Socket::receive) does, and returns its length
     /// alone, in octets.
     fn receive_any(&mut self, room: &mut [u8]) -> Result<Option<usize>, PortFault>
         ensures bound { IfOk result (λ got. IfSome got (λ n. n ≤ length room.new)) }
-        ensures receives { ReceivesAny receives self.old self.new result room.new }
-        ensures asks { ReceivesAny asks self.old self.new result room.new };
+        ensures receives { ReceivesAny receives self.old self.new result room.new };
 
     /// Sends a datagram to an address.
     ///

@@ -46,8 +46,6 @@ fn parted_at(mut socket: UdpSocket, address: SocketAddr) -> io::Result<Option<Ud
 }
 
 impl Socket for SystemSocket {
-    ghost rested = { λ _ _. ⊥ };
-
     fn bind<N: Net>(net: &N, address: SocketAddr) -> io::Result<SystemSocket> {
         let socket = UdpSocket::bind(net, address)?;
         socket.set_nonblocking(true)?;
@@ -77,11 +75,6 @@ impl Socket for SystemSocket {
         poll.registry()
             .register(source, token, Interest::READABLE)
             .is_ok()
-    }
-
-    #[inline]
-    fn rests(&mut self, _came: bool) -> bool {
-        false
     }
 
     fn receive(&mut self, room: &mut [u8]) -> Result<Option<(usize, SocketAddr)>, PortFault> {

@@ -2,7 +2,7 @@
 
 ghost use Rattle.std.specs.Prelude.{◌≡◌, ◌≢◌, ◌⊎◌, ◌-◌, ◌≤◌, ℕ, Bool, List, Option, vec_len, vec_capacity};
 ghost use Rattle.std.specs.Prelude.{length, Ok, None, IfOk, IfErr, IfSome, IsSomeAnd};
-ghost use Rattle.std.specs.Prelude.{⊤, replicate, slice_set, true, IsTrue, IsFalse};
+ghost use Rattle.std.specs.Prelude.{⊤, replicate, slice_set, true};
 ghost use Rattle.std.specs.IoError.{error_kind};
 ghost use Rattle.std.specs.declared.net.socket_addr.SocketAddr.{SocketAddr};
 ghost use Rattle.gw_records.specs.Ports.{Receives, Sends, CountsFault, KeepsSends, KeepsReceives};
@@ -10,10 +10,11 @@ ghost use Rattle.gw_udp.specs.Calls.{HasCalled, IsFresh};
 ghost use Rattle.gw_udp.specs.First.{EndpointSender, IsSenderOf, first_of, known_after};
 ghost use Rattle.gw_udp.specs.Given.{GivesFew, HasGivenEnough, given_after};
 ghost use Rattle.gw_udp.specs.Opening.{Blames, BlamesPorts, IsAddressOf, IsFaultOf};
-ghost use Rattle.gw_udp.specs.Ready.{Clears, IsAsked, IsCounted};
+ghost use Rattle.gw_udp.specs.Ready.{TakesTurn};
+ghost use Rattle.gw_udp.specs.Resting.{rests_after, rests_of};
 ghost use Rattle.gw_udp.specs.SourceFilter.{IsAccepted};
 ghost use Rattle.gw_udp.specs.Udp.{IsEndpointOf, IsEndpoint, HasEndpoints, KeepsOthers};
-ghost use Rattle.gw_udp.specs.Udp.{ReceivesFrom, EndpointReceives, EndpointRests, EndpointSends};
+ghost use Rattle.gw_udp.specs.Udp.{ReceivesFrom, EndpointReceives, EndpointSends};
 
 use crate::first_senders::FirstSenders;
 use crate::given::GivenOctets;
@@ -129,11 +130,12 @@ fn restrict<S: Socket>(socket: &mut S, senders: SourceFilter, peer: SocketAddr) 
 // Opens a circuit's socket by its configuration.
 fn open_endpoint<S: Socket>(
     net: &impl Net,
-    readiness: &Readiness,
+    readiness: &mut Readiness,
     circuit: u8,
     port: &Port,
     asked: &SocketsAsked,
 ) -> Result<Endpoint<S>, OpenFault>
+    requires { (1 ≤ circuit) × (circuit ≤ 30) }
     ensures ok { IfOk result (IsEndpointOf asked.now.host.now asked.now.senders port.now) }
     ensures err { IfErr result (IsFaultOf circuit) }
 {
@@ -161,11 +163,12 @@ fn open_endpoint<S: Socket>(
 // Opens the socket of a circuit, if it has ports.
 fn endpoint_of<S: Socket>(
     net: &impl Net,
-    readiness: &Readiness,
+    readiness: &mut Readiness,
     circuit: u8,
     port: &Option<Port>,
     asked: &SocketsAsked,
 ) -> Result<Option<Endpoint<S>>, OpenFault>
+    requires { (1 ≤ circuit) × (circuit ≤ 30) }
     ensures ok { IfOk result (IsEndpoint asked.now.host.now asked.now.senders port.now) }
     ensures err { IfErr result (IsFaultOf circuit) }
     ensures some { IfErr result (λ _. IsSomeAnd port.now (λ _. ⊤)) }
@@ -192,8 +195,6 @@ fn receive_accepted<S: Socket>(
     ensures bound { IfOk result (λ got. IfSome got (λ n. n ≤ length room.new)) }
     ensures received { ReceivesFrom S.receives (IsAccepted senders peer.now first) socket.old socket.new
         result room.new }
-    ensures asks { ReceivesFrom S.asks (IsAccepted senders peer.now first) socket.old socket.new result
-        room.new }
     ensures sender { IfOk result (λ got. IfSome got (λ len. IsSenderOf S.receives socket.new room.new len
         came.new)) }
 {
@@ -224,8 +225,6 @@ fn receive_from<S: Socket>(
     ensures bound { IfOk result (λ got. IfSome got (λ n. n ≤ length room.new)) }
     ensures received { ReceivesFrom S.receives (IsAccepted senders peer.now first) socket.old socket.new
         result room.new }
-    ensures asks { ReceivesFrom S.asks (IsAccepted senders peer.now first) socket.old socket.new result
-        room.new }
     ensures sender { senders ≢ SourceFilter.Any → IfOk result (λ got. IfSome got (λ len.
         IsSenderOf S.receives socket.new room.new len came.new)) }
 {
@@ -234,28 +233,6 @@ fn receive_from<S: Socket>(
         SourceFilter::Host | SourceFilter::Peer | SourceFilter::First => {
             receive_accepted(socket, senders, peer, first, came, room)
         }
-    }
-}
-
-// Whether a receive at the socket of a circuit finds none without asking the system; if there is no socket,
-// it does unless something is said to have come.
-#[inline]
-fn rests_at<S: Socket>(
-    endpoints: &mut [Option<Endpoint<S>>],
-    circuit: CircuitNo,
-    came: bool,
-) -> bool
-    requires { length endpoints.old ≡ 30 }
-    ensures rests { IsTrue result → (first : Option SocketAddr) (room : List ℕ)
-        → EndpointReceives S.receives first circuit endpoints.old endpoints.new (Ok None) room }
-    ensures rested { IsTrue result → EndpointRests S.rested circuit endpoints.old endpoints.new }
-    ensures stays { IsFalse result → endpoints.new ≡ endpoints.old }
-    ensures others { KeepsOthers circuit endpoints.old endpoints.new }
-    ensures asks { IsTrue came → IsFalse result }
-{
-    match &mut endpoints[usize::from(circuit.get()) - 1] {
-        Some(endpoint) => endpoint.socket.rests(came),
-        None => !came,
     }
 }
 
@@ -270,8 +247,6 @@ fn ask_at<S: Socket>(
     ensures bound { IfOk result (λ got. IfSome got (λ n. n ≤ length room.new)) }
     ensures own { EndpointReceives S.receives (first_of firsts.old circuit) circuit endpoints.old
         endpoints.new result room.new }
-    ensures asks { EndpointReceives S.asks (first_of firsts.old circuit) circuit endpoints.old endpoints.new
-        result room.new }
     ensures sender { IfOk result (λ got. IfSome got (λ len. EndpointSender S.receives circuit endpoints.new
         room.new len firsts.new.came)) }
     ensures known { firsts.new.known ≡ firsts.old.known }
@@ -293,7 +268,7 @@ fn ask_at<S: Socket>(
 }
 
 // Receives at a circuit's socket, by a call of the system, unless it gave enough since the last look. (What
-// came to it then stays there, and noted, so it is received after the next one.)
+// came to it then stays there, and the next receive asks.)
 #[inline(never)]
 fn ask_more<S: Socket>(
     endpoints: &mut [Option<Endpoint<S>>],
@@ -308,27 +283,30 @@ fn ask_more<S: Socket>(
     ensures enough { HasGivenEnough given.now circuit
         → (result ≡ Ok None) × (endpoints.new ≡ endpoints.old) × (readiness.new ≡ readiness.old) }
     ensures own { EndpointReceives S.receives (first_of firsts.old circuit) circuit endpoints.old
-        endpoints.new result room.new ⊎ (HasGivenEnough given.now circuit × (endpoints.new ≡ endpoints.old)) }
-    ensures asks { ¬ HasGivenEnough given.now circuit → EndpointReceives S.asks (first_of firsts.old circuit)
-        circuit endpoints.old endpoints.new result room.new }
+        endpoints.new result room.new ⊎ ((result ≡ Ok None) × (endpoints.new ≡ endpoints.old)) }
+    ensures asks { ¬ HasGivenEnough given.now circuit → EndpointReceives S.receives
+        (first_of firsts.old circuit) circuit endpoints.old endpoints.new result room.new }
+    ensures rests { ¬ HasGivenEnough given.now circuit → rests_of readiness.new.rests (circuit - 1)
+        ≡ rests_after (rests_of readiness.old.most (circuit - 1)) result }
+    ensures others_rest { (k : ℕ) → k ≢ circuit - 1
+        → rests_of readiness.new.rests k ≡ rests_of readiness.old.rests k }
+    ensures most { readiness.new.most ≡ readiness.old.most }
+    ensures receives { readiness.new.receives ≡ readiness.old.receives }
     ensures sender { IfOk result (λ got. IfSome got (λ len. EndpointSender S.receives circuit endpoints.new
         room.new len firsts.new.came)) }
     ensures known { firsts.new.known ≡ firsts.old.known }
-    ensures clears { ¬ HasGivenEnough given.now circuit
-        → Clears readiness.old.came readiness.new.came circuit
-        × (readiness.new.receives ≡ readiness.old.receives) }
     ensures others { KeepsOthers circuit endpoints.old endpoints.new }
-    ensures in_range { (1 ≤ circuit) × (circuit ≤ 30) }
 {
     if given.are_enough(circuit) {
         return Ok(None);
     }
-    readiness.clear(circuit);
-    ask_at(endpoints, firsts, circuit, room)
+    let answer = ask_at(endpoints, firsts, circuit, room);
+    readiness.rest_after(circuit, &answer);
+    answer
 }
 
-// Receives at the socket of a circuit, unless it gave enough since the last look. (What may ask the system is
-// apart, since most receives do not.)
+// Receives at the socket of a circuit, unless it rests or gave enough since the last look. (What may ask the
+// system is apart, since most receives do not.)
 #[inline]
 fn receive_more<S: Socket>(
     endpoints: &mut [Option<Endpoint<S>>],
@@ -341,22 +319,19 @@ fn receive_more<S: Socket>(
     requires { length endpoints.old ≡ 30 }
     ensures bound { IfOk result (λ got. IfSome got (λ n. n ≤ length room.new)) }
     ensures enough { HasGivenEnough given.now circuit
-        → (result ≡ Ok None) × IsCounted readiness.old readiness.new × ((endpoints.new ≡ endpoints.old)
-        ⊎ EndpointRests S.rested circuit endpoints.old endpoints.new) }
+        → (result ≡ Ok None) × (endpoints.new ≡ endpoints.old) }
     ensures own { EndpointReceives S.receives (first_of firsts.old circuit) circuit endpoints.old
-        endpoints.new result room.new ⊎ (HasGivenEnough given.now circuit × (endpoints.new ≡ endpoints.old)) }
-    ensures asks { ¬ HasGivenEnough given.now circuit
-        → (came : Bool) × IsAsked readiness.old readiness.new circuit came × (IsTrue came
-        → EndpointReceives S.asks (first_of firsts.old circuit) circuit endpoints.old endpoints.new result
-        room.new) }
+        endpoints.new result room.new ⊎ ((result ≡ Ok None) × (endpoints.new ≡ endpoints.old)) }
+    ensures turn { TakesTurn readiness.old readiness.new circuit (HasGivenEnough given.now circuit)
+        (EndpointReceives S.receives (first_of firsts.old circuit) circuit endpoints.old endpoints.new result
+        room.new) result }
     ensures sender { IfOk result (λ got. IfSome got (λ len. EndpointSender S.receives circuit endpoints.new
         room.new len firsts.new.came)) }
     ensures known { firsts.new.known ≡ firsts.old.known }
     ensures others { KeepsOthers circuit endpoints.old endpoints.new }
     ensures in_range { (1 ≤ circuit) × (circuit ≤ 30) }
 {
-    let came = readiness.came(circuit);
-    if rests_at(endpoints, circuit, came) {
+    if readiness.rests(circuit) {
         return Ok(None);
     }
     ask_more(endpoints, readiness, given, firsts, circuit, room)
@@ -412,7 +387,7 @@ impl<S: Socket> UdpPorts<S> {
         let Ok(mut endpoints) = Vec::with_capacity(alloc, CIRCUITS) else {
             return Err(OpenFault::OutOfMemory);
         };
-        let readiness = Readiness::open(net, alloc);
+        let mut readiness = Readiness::open(net, alloc);
         let asked = SocketsAsked {
             host,
             senders,
@@ -420,7 +395,7 @@ impl<S: Socket> UdpPorts<S> {
         };
         for number in 1..=30u8 {
             let port = &ports[usize::from(number) - 1];
-            let endpoint = endpoint_of(net, &readiness, number, port, &asked)?;
+            let endpoint = endpoint_of(net, &mut readiness, number, port, &asked)?;
             endpoints.push_reserved(endpoint);
         }
         let opened = AtStart::of(&endpoints);
@@ -460,7 +435,7 @@ impl<S: Socket> Ports for UdpPorts<S> {
 
     fn look(&mut self)
         ensures tells { told self.new ≡ told self.old }
-        ensures looked { HasLooked self.new }
+        ensures looked { HasLooked self.old self.new }
     {
         self.readiness.look();
         self.given.clear();
@@ -499,17 +474,14 @@ impl<S: Socket> Ports for UdpPorts<S> {
         ensures counts { CountsFault self.old.receive_failed self.new.receive_failed result }
         ensures sends_stay { KeepsSends (told self.old) (told self.new) }
         ensures enough { HasGivenEnough self.old.given circuit → (result ≡ Ok None)
-            × IsCounted self.old.readiness self.new.readiness
-            × ((self.new.endpoints.items ≡ self.old.endpoints.items)
-            ⊎ EndpointRests S.rested circuit self.old.endpoints.items self.new.endpoints.items) }
+            × (self.new.endpoints.items ≡ self.old.endpoints.items) }
         ensures own { EndpointReceives S.receives (first_of self.old.firsts circuit) circuit
             self.old.endpoints.items self.new.endpoints.items result room.new
-            ⊎ (HasGivenEnough self.old.given circuit
-            × (self.new.endpoints.items ≡ self.old.endpoints.items)) }
-        ensures asks { ¬ HasGivenEnough self.old.given circuit
-            → (came : Bool) × IsAsked self.old.readiness self.new.readiness circuit came
-            × (IsTrue came → EndpointReceives S.asks (first_of self.old.firsts circuit) circuit
-            self.old.endpoints.items self.new.endpoints.items result room.new) }
+            ⊎ ((result ≡ Ok None) × (self.new.endpoints.items ≡ self.old.endpoints.items)) }
+        ensures turn { TakesTurn self.old.readiness self.new.readiness circuit
+            (HasGivenEnough self.old.given circuit) (EndpointReceives S.receives
+            (first_of self.old.firsts circuit) circuit self.old.endpoints.items self.new.endpoints.items
+            result room.new) result }
         ensures sender { IfOk result (λ got. IfSome got (λ len. EndpointSender S.receives circuit
             self.new.endpoints.items room.new len self.new.firsts.came)) }
         ensures known { self.new.firsts.known ≡ self.old.firsts.known }

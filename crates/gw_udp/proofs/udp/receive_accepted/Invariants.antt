@@ -7,6 +7,5 @@ use Rattle.gw_udp.proofs.udp.receive_accepted.Given as goal
 abbrev pub invariant-loop-turn : goal.invariant-loop-turn
 invariant-loop-turn g l = record {
   few : l._turn ≤ 16;
-  asks : Skips g.S.Socket.asks (IsAccepted l.senders l.peer l.first) l._turn l.initial.socket l.socket;
   skips : Skips g.S.Socket.receives (IsAccepted l.senders l.peer l.first) l._turn l.initial.socket l.socket;
 }

@@ -20,6 +20,3 @@ any_answer old new (Err e) room = tt
 
 pub returns-clause-receives : goal.returns-clause-receives
 returns-clause-receives c = any_answer c.args.self.now c.args.self.now c.received.result c.recv.new.buf
-
-pub returns-clause-asks : goal.returns-clause-asks
-returns-clause-asks c = any_answer c.args.self.now c.args.self.now c.received.result c.recv.new.buf

@@ -12,7 +12,6 @@ invariant_of-self g c = record {
 
 pub returns-clause-looked : goal.returns-clause-looked
 returns-clause-looked g c = record {
-  came = c.args.self.now.readiness.came;
   asked = c.look.ensures.asks;
   cleared = rw c.clear.ensures refl;
   from_here = rw c.of-self.ensures refl;

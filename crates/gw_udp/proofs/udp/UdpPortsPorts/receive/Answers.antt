@@ -1,6 +1,5 @@
 use Rattle.std.proofs.Common.{length, drop, take_at, arith, rules}
 use Rattle.std.proofs.Math.Logic.{∥∥₁_map}
-use Rattle.gw_udp.specs.Given.{HasGivenEnough}
 use Rattle.gw_udp.proofs.Calls.{called_more, receive_called}
 use Rattle.gw_udp.proofs.Looks.{receive_few}
 use Rattle.gw_udp.proofs.udp.UdpPortsPorts.receive.Goals as goal
@@ -17,9 +16,8 @@ invariant_of-self g c =
       memory = c.args.self.now.memory;
       called = ∥∥₁_map c.args.self.now.called (λ called. rw (c.received.ensures, whole)
           (called_more _ _ _ _ _ _ _ called
-          (receive_called _ _ _ c.args.circuit (HasGivenEnough c.args.self.now.given c.args.circuit) _ _
+          (receive_called _ _ _ c.args.circuit _ _
           c.receive_more-received.result c.receive_more-received.new.room c.receive_more-received.ensures.in_range.0
-          (λ enough. (c.receive_more-received.ensures.enough enough).0)
           (rw same at c.receive_more-received.ensures.own) (rw same at c.receive_more-received.ensures.others))));
       few = λ limited.
           let was = rw c.count.ensures at limited in
@@ -47,14 +45,14 @@ returns-clause-own g c =
     (omega (arith, c.receive_more-received.auto.endpoints, c.as_mut_slice.ensures.len)) in
     rw whole (rw same at c.receive_more-received.ensures.own)
 
-pub returns-clause-asks : goal.returns-clause-asks
-returns-clause-asks g c =
+pub returns-clause-turn : goal.returns-clause-turn
+returns-clause-turn g c =
     let was = c.args.self.now.endpoints in
     let endpoints = c.receive_more-received.new.endpoints in
     let same = c.as_mut_slice.ensures.value in
     let whole = take_at endpoints (drop (length endpoints) was.items) was.len
     (omega (arith, c.receive_more-received.auto.endpoints, c.as_mut_slice.ensures.len)) in
-    rw whole (rw same at c.receive_more-received.ensures.asks)
+    rw whole (rw same at c.receive_more-received.ensures.turn)
 
 pub returns-clause-sender : goal.returns-clause-sender
 returns-clause-sender g c =
