@@ -13,7 +13,7 @@ from .findings import NO_FAULT, findings
 from .reading import SessionReading, facts_of
 from .svg import duration
 
-LAST = 30.0                 # seconds that are looked at
+LAST = 20.0
 
 
 def last_facts(path: str, circuit: int, config: str | None = None, seconds: float = LAST) -> Facts:
