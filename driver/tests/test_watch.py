@@ -16,7 +16,7 @@ from . import support
 from .test_tell_lines import BEGIN, counts, row
 from e1gw.call_names import CallNames
 from e1gw.calls import CallLog, CallsNote
-from e1gw.clock import ClockFinding, ClockStatus, TrunkRate
+from e1gw.clock import ClockFinding, ClockStatus
 from e1gw.events import (Burst, CallsCleared, Event, FlowChanged, Flows, RateChanged, ReadEvents, Slip, Stalled,
                          WatchEnded)
 from e1gw_common import line_files
@@ -24,6 +24,7 @@ from e1gw_common.answers import CommandCount
 from e1gw_common.lines import Line, LineStatus, Role, State
 from e1gw.resyncs import Resyncs
 from e1gw.status import MachineRole, PairStatus
+from e1gw.trunk_rate import TrunkRate
 from e1gw.watcher import flow, tell_client, watch
 from e1gw.watcher.commands import MOST_HELD, ControlPeer
 from e1gw.watcher.connection import ProgramConnection
