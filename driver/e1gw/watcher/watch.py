@@ -28,9 +28,9 @@ from ..counts import DatagramCounts
 from ..deaf import DeafCalls
 from ..events import (LAST, Burst, CallsCleared, CommandGiven, Event, LineChanged, RateChanged, ReadEvent, ReadEvents,
                       Slip, WatchEnded, WrongRate)
+from ..files_status import FilesStatus
 from ..resyncs import Resyncs
 from ..status import TrunkStatus
-from ..trunk_files import TrunkFiles
 from .commands import MOST_LINE, CommandServer
 from .connection import NoAnswer, ProgramConnection
 from .blocks import BlockWatch
@@ -68,10 +68,10 @@ class WatchWants:
     picture: list[str] = field(default_factory=list)
     kept: str | None = None
 
-    def files(self) -> TrunkFiles:
+    def files(self) -> FilesStatus:
         calls, events, session = (path and os.path.abspath(path) for path in (
             self.calls, None if self.json == '-' else self.json, self.session))
-        return TrunkFiles(os.path.abspath(self.config), calls, events, session, self.http)
+        return FilesStatus(os.path.abspath(self.config), calls, events, session, self.http)
 
 
 @dataclass(frozen=True)
