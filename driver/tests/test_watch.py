@@ -26,7 +26,7 @@ from e1gw.resyncs import Resyncs
 from e1gw.status import MachineRole, PairStatus
 from e1gw.trunk_rate import TrunkRate
 from e1gw.watcher import flow, tell_client, watch
-from e1gw.watcher.commands import MOST_HELD, ControlPeer
+from e1gw.watcher.commands import MOST_HELD, ControlPeer, choose_evicted
 from e1gw.watcher.connection import ProgramConnection
 from e1gw.watcher.journal import NOTICE, LineFormatter
 from e1gw.watcher.missed import MissedReports
@@ -229,6 +229,16 @@ class WatchEdgeTests(TrunkWatchCase):
             with mock.patch('time.monotonic', lambda: 0.0):
                 ControlPeer(writer).send_line('words')
             self.assertEqual((writer.write.call_count, writer.transport.abort.call_count), calls)
+
+    def test_who_gives_way(self) -> None:
+        """The one idle for longest; one that follows events behind the others, and one that holds calls last."""
+        idle, busy, follows, old, holds, front = (
+            ControlPeer(mock.Mock(), are_held, its, last) for its, last, are_held in (
+                (False, 5.0, False), (False, 9.0, False), (True, 1.0, False), (True, 0.0, False), (False, 0.0, True),
+                (True, 0.0, True)))
+        for peers, gone in (([busy, idle, follows, old], idle), ([follows, busy], busy), ([follows, old], old),
+                            ([holds, follows], follows), ([front, busy, holds], busy), ([front, holds], holds)):
+            self.assertIs(choose_evicted(peers), gone)
 
     async def test_who_is_cleared(self) -> None:
         """What this end can end; and idle incoming circuits are blocked if that is wanted."""
