@@ -69,9 +69,10 @@ def add_names(words: argparse._ArgumentGroup) -> None:
                        'or e1gw]')
     words.add_argument('--folder', metavar='DIR', help=f'where the folder of the trunk is [default: RUNTIME_DIRECTORY, '
                        f'or {MEMORY}]')
-    words.add_argument('--control-mode', type=checked(mode_of, 'a mode of a file, as 660'), default=0o660,
-                       metavar='MODE', help='the mode of --control, in octal [default: 660]')
-    words.add_argument('--control-group', metavar='GROUP', help='its group')
+    words.add_argument('--control-mode', type=checked(mode_of, 'a mode of a file, as 660'),
+                       default=WatchWants.control_mode, metavar='MODE',
+                       help=f'the mode of --control, in octal [default: {WatchWants.control_mode:o}]')
+    words.add_argument('--control-group', default=WatchWants.control_group, metavar='GROUP', help='its group')
     words.add_argument('-h', '--help', action='help', help='prints this')
 
 
