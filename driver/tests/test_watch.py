@@ -74,11 +74,11 @@ class WatchEdgeTests(TrunkWatchCase):
         for what, event, given in rows:
             found = self.watched()
             for n, state in ((3, State.ANSWERED), (4, State.SEIZED)):
-                found._lines.lines[n].begin(state, 0.0)
+                found._state.lines[n].begin(state, 0.0)
             with mock.patch.object(found, 'report_event') as tells:
                 found.on_clock_finding(ClockFinding(what, 0.25))
             self.assertEqual(tells.mock_calls, [mock.call(event)])
-            found._restarts.restart_due(100.0, 0, found._lines.open_circuits(), True)
+            found._restarts.restart_due(100.0, 0, found._state.open_circuits(), True)
             await asyncio.sleep(0)
             self.assertEqual([record[:2] for record in self.given], given)
             self.assertEqual(found.known_status().renewed, len(given))
@@ -98,15 +98,15 @@ class WatchEdgeTests(TrunkWatchCase):
                   row(3, 'answered', '00 01'), row(5, 'fault'), counts(3, 9, Late=2)]
         setattr(found.client, 'report_event', found.report_event)
         found.blocks = mock.Mock(**{'kept.now.word.return_value': None})
-        found._lines.begin(4096)
-        found._lines.take('\n'.join([*BEGIN, 'now', *commands, *change, '']).encode())
+        found._state.begin(4096)
+        found._state.take('\n'.join([*BEGIN, 'now', *commands, *change, '']).encode())
         found.counts.circuits[3].numbers.before = 5
         found.count(3, 'seize', 'done')
         found._resyncs = 4
-        found._lines.lines[3].opened = time.monotonic() - 5.0
+        found._state.lines[3].opened = time.monotonic() - 5.0
         calls, shown, wanted = found.client.calls_note(), found.page_notes(), found.known_status()
         assert calls
-        found._lines.take('\n'.join([row(3, 'fault'), row(5, 'idle'), row(4, 'answered'), '']).encode())
+        found._state.take('\n'.join([row(3, 'fault'), row(5, 'idle'), row(4, 'answered'), '']).encode())
         later = self.watched()
         later.blocks = found.blocks
         later.restore_shown(typed(watch.ShownNote, json.loads(json.dumps(shown, default=vars))))
@@ -124,10 +124,10 @@ class WatchEdgeTests(TrunkWatchCase):
         self.assertEqual((its.circuits[2].packets.lost, its.circuits[2].packets.datagrams['Late']), (5, 2))
         naming, lines = CallNames(self.path('trunk.toml.calls')), {n: Line(n) for n in CIRCUITS}
         naming.begin('another', {n: 0 for n in CIRCUITS}, lines)
-        self.assertEqual([counted(lines[n]) for n in (3, 4, 5)], [counted(found._lines.lines[n]) for n in (3, 4, 5)])
+        self.assertEqual([counted(lines[n]) for n in (3, 4, 5)], [counted(found._state.lines[n]) for n in (3, 4, 5)])
         for begun, late, all_late in (4096, 2, 2), (8192, 1, 3):        # (the same session, and then another one)
-            later._lines.begin(begun)
-            later._lines.take('\n'.join([*BEGIN, row(3, 'answered', '00 01', (0, 9, all_late)), counts(
+            later._state.begin(begun)
+            later._state.take('\n'.join([*BEGIN, row(3, 'answered', '00 01', (0, 9, all_late)), counts(
                 3, 9, Late=late), 'now', '']).encode())
             self.assertEqual(later.known_status().circuits[2].packets.datagrams['Late'], all_late)
 
@@ -161,10 +161,10 @@ class WatchEdgeTests(TrunkWatchCase):
                 found.blocks, follower = mock.Mock(), mock.Mock()
                 setattr(found.client, 'report_event', found.report_event)
                 setattr(found._server, 'followers', lambda: [follower])
-                found._lines.begin(0)
-                found._lines.take('\n'.join([*BEGIN, 'now', '']).encode())
+                found._state.begin(0)
+                found._state.take('\n'.join([*BEGIN, 'now', '']).encode())
                 with self.assertLogs(level='DEBUG') as logs:
-                    found._lines.take(change.encode())
+                    found._state.take(change.encode())
                 told = [json.loads(call.args[0])['event'] for call in follower.send_line.mock_calls]
                 self.assertEqual(told, ['state', 'lost', 'alarm'])
                 self.assertIn("the watch of the trunk goes on: KeyError: 'odd' (", ''.join(logs.output))
@@ -175,8 +175,8 @@ class WatchEdgeTests(TrunkWatchCase):
         found.blocks = mock.Mock()
         lines = [*BEGIN, row(3, 'answered', '00 11'), 'now']
         lines += [each for n in range(1, 5) for each in (f'at {30_000 * n}', counts(3, 0, Full=n))]
-        found._lines.begin(0)
-        found._lines.take('\n'.join([*lines, '']).encode())
+        found._state.begin(0)
+        found._state.take('\n'.join([*lines, '']).encode())
         found._check()
         await self.until(lambda: self.given)
         self.assertEqual([record[:2] for record in self.given], [b'K\x03'])
@@ -209,7 +209,7 @@ class WatchEdgeTests(TrunkWatchCase):
                     mock.patch.object(tell_client, 'logger') as told:
                 await its._catch_up(missed.last)
             self.assertEqual([call.args[1] for call in told.warning.call_args_list], [2.0] * is_known)
-            self.assertEqual(its.lines.place, missed.last * is_known)
+            self.assertEqual(its.state.place, missed.last * is_known)
 
     async def test_circuits_that_are_configured_otherwise(self) -> None:
         """Of those a reload has ended the calls."""
@@ -250,7 +250,7 @@ class WatchEdgeTests(TrunkWatchCase):
             found = self.watched()
             kinds = [(role, state) for role in (out, come) for state in State if str(state) != 'unknown']
             wanted = commands | ({(come, State.IDLE): Command.BLOCK} if blocks else {})
-            for n, line in found._lines.lines.items():
+            for n, line in found._state.lines.items():
                 line.role, state = kinds[n - 1] if n <= len(kinds) else (out, State.FAULT)
                 line.begin(state, 0.0)
             with mock.patch.object(found, 'report_event') as tell:

@@ -189,7 +189,7 @@ class CommandServer:
         if not circuit:
             return NO_CIRCUIT.lines(f'codec {words[0][:40]}')
         front = f'codec {circuit}'
-        if fault := codec_fault(words[1:3], trunk.client.lines.law):
+        if fault := codec_fault(words[1:3], trunk.client.state.law):
             return refused(fault).lines(front)
         record = codec_record(circuit, CODECS[words[1]], int(words[2]))
         answer = await trunk.command(record, circuit, ' '.join(['codec', *words[1:]]))
