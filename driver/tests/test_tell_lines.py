@@ -120,7 +120,7 @@ class ToldTests(unittest.TestCase):
 
     def test_a_refused_command_counts_nothing(self) -> None:
         given: list[bytes] = []
-        self.told.commanded = given.append
+        self.told.on_command_told = given.append
         self.take('command 1 1 2', 'command 16 3 1', 'codec 1 2 95 31')
         self.assertEqual(given, [b'C\1\0\1\1', b'C\x10\0\1\3', b'K\1\0\2\2\x5f'])
         self.assertEqual((self.circuit()['seizures'], self.circuit(16)['answers'], self.events), (0, 0, []))

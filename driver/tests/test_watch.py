@@ -155,7 +155,8 @@ class WatchEdgeTests(TrunkWatchCase):
         """It is reported where that was, the program is not blamed, and all others are told."""
         change = '\n'.join([row(3, 'seized', '00 10'), 'command 3 1 0', counts(3, 1), 'alarms 1 0 0 0', ''])
         for kind, what in ((CallLog, 'on_state_change'), (CallNames, 'note_states'), (ReadEvents, 'take'),
-                           (TrunkPages, 'mark_stale'), (ProgramConnection, 'on_record'), (Resyncs, 'count_answers')):
+                           (TrunkPages, 'mark_stale'), (ProgramConnection, 'on_command_told'),
+                           (Resyncs, 'count_answers')):
             with self.subTest(what), mock.patch.object(kind, what, side_effect=KeyError('odd')):
                 found = self.watched()
                 found.blocks, follower = mock.Mock(), mock.Mock()

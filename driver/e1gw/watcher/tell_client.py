@@ -160,7 +160,7 @@ class TellClient:
                 self._since, why = time.time(), self._trunk.facts().fault or why
                 self.report_event(Connected('program') if has else Disconnected('program', why))
 
-    def teller(self) -> object:
+    def report_connection(self) -> object:
         """The connection at which changes are told; None if there is none."""
         return self._line if self.state.live else None
 

@@ -102,7 +102,7 @@ class TrunkWatch:
         self._state = self.client.state
         self._program = ProgramConnection(lambda: trunk.places().control, self.client.set_connected, self.client.wake,
                                           lambda: trunk.facts().fault)
-        self._state.commanded = report_failure(self._program.on_record, WATCH)
+        self._state.on_command_told = report_failure(self._program.on_command_told, WATCH)
         self._events, self._ended_calls = ReadEvents(), deque[str](maxlen=LAST)
         self.pages = TrunkPages(self.known_status, self.client.take_now, list(self._state.lines.values()),
                                 PageNotes(self._events.last, self._ended_calls, wants.kept))
@@ -128,7 +128,7 @@ class TrunkWatch:
         """Has the program do a command of a circuit."""
         try:
             with self.blocks.under_way(circuit):
-                refusal = (await self._program.ask(record, self.client.teller)).refusal
+                refusal = (await self._program.ask(record, self.client.report_connection)).refusal
             answer = refused_by(refusal, circuit, self._state.lines[circuit].role) if refusal else DONE
         except NoAnswer as fault:
             answer = CommandAnswer(AnswerWord.UNKNOWN if fault.is_given else AnswerWord.REFUSED, str(fault))
