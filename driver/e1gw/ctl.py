@@ -42,7 +42,7 @@ from e1gw_common.faults import Parser, checked, number, words_of_fault
 from e1gw_common.session import CIRCUITS, circuit_of
 from e1gw_common.session_clock import local_second
 from .control_sockets import PATIENCE, SOCKETS, answer_to, connected, read_status, trunks_here
-from .trunk_files import TrunkFiles
+from .files_status import FilesStatus
 
 # (What takes a while to be read is imported where it is used.)
 ASKING = ('status', 'events', 'help', 'metrics', 'role')
@@ -149,7 +149,7 @@ def codec_saved(path: str, numbers: str, codec: str, kind: str, patience: float)
     if status := run(path, ['codec', numbers, codec, kind], patience):
         return status
     from .ctl_codec import save_codecs
-    file = read_status(TrunkFiles, path, patience).config_file
+    file = read_status(FilesStatus, path, patience).config_file
     try:
         save_codecs(file, [int(each) for each in circuits_of(numbers)], codec, int(kind))
     except ValueError as fault:

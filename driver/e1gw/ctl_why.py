@@ -6,13 +6,13 @@ from typing import Iterable
 from e1gw_common.session_files import InputError
 from e1gw_picture import finding_lines, last_facts
 from .control_sockets import each_trunk, read_status
-from .trunk_files import TrunkFiles
+from .files_status import FilesStatus
 
 
 def why(trunks: Iterable[tuple[str, str]], circuit: int, patience: float) -> int:
     """Prints it; returns the status."""
     def looks(_: str, path: str) -> None:
-        files = read_status(TrunkFiles, path, patience)
+        files = read_status(FilesStatus, path, patience)
         if not files.session_path:
             raise ValueError('it records nothing that could be looked at (--session)')
         try:

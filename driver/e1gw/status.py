@@ -13,10 +13,10 @@ from .clock import ClockStatus
 from .counts import PacketStatus
 from .crc4 import Crc4Status
 from .events import BlockNews, ReadEvent
+from .files_status import FilesStatus
 from .holder_state import ACTIVE, STANDBY
 from .satop import SatopStatus
 from .slots import SlotsStatus
-from .trunk_files import TrunkFiles
 from .udp_tables import SocketStatus
 from .watcher.card import CardStatus
 
@@ -92,7 +92,7 @@ class TrunkStatus:
     time: float = 0.0
     uptime: float = 0.0
     fault: str | None = None            # why the trunk is not open
-    files: TrunkFiles = flat(default=TrunkFiles())
+    files: FilesStatus = flat(default=FilesStatus())
     told: ToldStatus = flat(default=ToldStatus())
     pair: PairStatus | None = flat(default=None)
     transport: TransportStatus = TransportStatus()

@@ -20,8 +20,8 @@ TELLS = {'watcher.connection.PATIENCE': LONG}
 # Files of a ring are of a second there, and of each program: more of them are kept than of hours. What draws and what
 # keeps has its share of a loaded machine.
 STARTED: dict[str, Any] = {
-    'clock.STEADY': 0.0, 'clock.LEAST': LONG, 'holder.decisions.TRIED': LONG, 'holder.decisions.MOST_LINE_PAUSE': 0.01,
-    'recording_ring.MOST_OWN': 1000,
+    'clock.STEADY': 0.0, 'trunk_rate.LEAST': LONG, 'holder.decisions.TRIED': LONG,
+    'holder.decisions.MOST_LINE_PAUSE': 0.01, 'recording_ring.MOST_OWN': 1000,
     **dict.fromkeys(('watcher.http_pages.put_behind', 'watcher.recordings.put_behind'), lambda *_: None)}
 LIMITS: dict[str, Any] = {
     'watcher.replay.CHECK': LONG, 'watcher.tell_client.FIRST': LONG,

@@ -208,7 +208,7 @@ class BilledTrunk:
         if note:
             status.restore_note(note)
             self.waiting += [line for line in note.lines if line not in self.file]
-        reader.told = lambda: status.lines.place
+        reader.told = lambda: status.state.place
         self.connected = None
         if self.program.lives:
             self.program.begun = self.trunk.first = begun
@@ -379,7 +379,7 @@ class BilledTrunk:
             self.goes_on(1)
         self.looks()
         assert self.status
-        self.since = {n: line.since for n, line in self.status.lines.lines.items()}
+        self.since = {n: line.since for n, line in self.status.state.lines.items()}
         self.status.calls.finish()
         self.file += self.waiting
         self.trunk.reader.take_out()

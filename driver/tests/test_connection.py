@@ -47,17 +47,17 @@ class ProgramConnectionTests(support.LoopCase):
     async def asyncSetUp(self) -> None:
         await super().asyncSetUp()
         path = self.path('program')
-        self.listener, self.fault, self.hurries = support.listening(path), '', 0
+        self.listener, self.fault, self.reads = support.listening(path), '', 0
         self.addCleanup(self.listener.close)
         self.stood = list[tuple[str, bool, str]]()
         self.its = ProgramConnection(lambda: path, lambda what, on, why: self.stood.append((what, on, why)),
-                                     self.hurried, lambda: self.fault)
+                                     self.read_reports_now, lambda: self.fault)
         self.enterContext(mock.patch.multiple(connection, PATIENCE=SECONDS, AGAIN=0.0))
         self.addCleanup(asyncio.create_task(self.its.run()).cancel)
         self.line = await self.accepted()
 
-    def hurried(self) -> None:
-        self.hurries += 1
+    def read_reports_now(self) -> None:
+        self.reads += 1
 
     async def accepted(self) -> socket.socket:
         line = (await asyncio.to_thread(self.listener.accept))[0]
@@ -65,8 +65,8 @@ class ProgramConnectionTests(support.LoopCase):
         await self.until(lambda: self.stood and self.stood[-1][1])
         return line
 
-    def asks(self, circuit: int, teller: object = None, **more: Any) -> asyncio.Task[Record]:
-        return asyncio.create_task(self.its.ask(command_record(circuit, Command.SEIZE), lambda: teller, **more))
+    def asks(self, circuit: int, reports: object = None, **more: Any) -> asyncio.Task[Record]:
+        return asyncio.create_task(self.its.ask(command_record(circuit, Command.SEIZE), lambda: reports, **more))
 
     async def test_answers(self) -> None:
         """In their order. What has none when the program ends gets none, and what comes then goes to the next one."""
@@ -91,16 +91,16 @@ class ProgramConnectionTests(support.LoopCase):
 
     async def test_an_answer_waits_for_its_report(self) -> None:
         """Of two that are alike each has its own; one waits no more when nobody tells, or another one does."""
-        both, other = [self.asks(1, 'teller') for _ in range(2)], self.asks(2)
+        both, other = [self.asks(1, 'this one') for _ in range(2)], self.asks(2)
         for circuit in 1, 1, 2:
             self.line.sendall(answer(circuit))
         await other
         for n in 0, 1:
             self.assertFalse(both[n].done())
-            self.its.on_record(command_record(1, Command.SEIZE))
+            self.its.on_command_told(command_record(1, Command.SEIZE))
             await both[n]
-        self.assertGreater(self.hurries, 0)
-        told = list[object](['teller', 'teller', 'another'])
+        self.assertGreater(self.reads, 0)
+        told = list[object](['this one', 'this one', 'another'])
         late = asyncio.create_task(self.its.ask(command_record(4, Command.SEIZE), lambda: told.pop(0)))
         self.line.sendall(answer(4))
         await late

@@ -88,12 +88,12 @@ class DeafTrunkCase(TrunkWatchCase):
         found = self.watched()
         found.blocks = mock.Mock(**{'kept.now.word.return_value': None})
         setattr(found._deaf, '_tell', self.told.append)
-        found._lines.begin(0)
+        found._state.begin(0)
         lines = [*BEGIN, *(row(n, 'answered', '00 11') for n in (3, 5, 7)), 'now']
-        found._lines.take('\n'.join([*lines, '']).encode())
+        found._state.take('\n'.join([*lines, '']).encode())
         for place in range(1, 10):
             more = f'at {place * DEAF_AFTER // 8}', counts(3, place), counts(7, 0, PayloadType=place)
-            found._lines.take('\n'.join([*more, '']).encode())
+            found._state.take('\n'.join([*more, '']).encode())
             found._check()
         return found
 
@@ -122,15 +122,15 @@ class DeafTrunkTests(DeafTrunkCase):
     async def test_its_line(self) -> None:
         """The first cause, also if another one comes behind it, and the call goes on behind a program and a watcher."""
         found = await self.deaf()
-        found._lines.take(f'{counts(7, 0, PayloadType=9, Late=30)}\n'.encode())
+        found._state.take(f'{counts(7, 0, PayloadType=9, Late=30)}\n'.encode())
         found.client.calls.on_disconnect()
         note = found.client.calls.note(0, 0, 0.0, ())
         self.assertEqual([note.circuits[n].packets.cause for n in (3, 5, 7)], ['', '', 'PayloadType'])
         later = self.watched()
         later.client.calls.restore_note(note)
-        later._lines.begin(0)
+        later._state.begin(0)
         lines = [*BEGIN, row(7, 'answered', '00 11'), counts(7, 0, PayloadType=9, Late=30), 'now']
-        later._lines.take('\n'.join([*lines, counts(7, 0, PayloadType=9, Late=40), '']).encode())
+        later._state.take('\n'.join([*lines, counts(7, 0, PayloadType=9, Late=40), '']).encode())
         self.assertEqual(self.discarded(later), ('0', '49', 'PayloadType'))
 
     async def test_the_next_call(self) -> None:
@@ -140,10 +140,10 @@ class DeafTrunkTests(DeafTrunkCase):
         setattr(found.client, 'report_event', found.report_event)
         setattr(found._deaf, '_tell', calls.append)
         states = [row(7, state, '00 11') for state in ('releasing', 'idle', 'seized', 'acked', 'answered')]
-        found._lines.take('\n'.join([*states[:2], counts(7, 0, PayloadType=9, NotOpen=5), *states[2:], '']).encode())
+        found._state.take('\n'.join([*states[:2], counts(7, 0, PayloadType=9, NotOpen=5), *states[2:], '']).encode())
         self.assertEqual((calls, self.discarded(found)), ([CallsDeaf(False, (7,))], ('0', '0', '')))
         for late in 0, 1:
-            found._lines.take(f'{counts(7, 0, PayloadType=9, Late=late, NotOpen=6)}\n'.encode())
+            found._state.take(f'{counts(7, 0, PayloadType=9, Late=late, NotOpen=6)}\n'.encode())
         self.assertEqual(self.discarded(found), ('0', '1', 'Late'))
 
     def discarded(self, found: Any) -> tuple[str, ...]:

@@ -3,14 +3,12 @@ from __future__ import annotations
 
 import random
 import unittest
-from types import SimpleNamespace
 from unittest import mock
 
 from . import limits, support
 from e1gw.holder.decisions import (DEATHS, FIRST_PAUSE, MOST_DEATHS, MOST_PAUSE, TRIED, WITHIN, Deaths)
 from e1gw.trial import MOST_ENDED, ReloadEffects
 from e1gw.watcher import flow
-from e1gw.watcher.control_clients import choose_evicted
 from e1gw.watcher.flow import Flow, FlowChange
 from e1gw.watcher.idle_reloads import IdleReloads
 
@@ -67,13 +65,3 @@ class DecisionTests(unittest.TestCase):
         self.assertEqual(stalled.update(0, 50.0, True), (stalled, None))
         self.assertEqual(stalled.update(7, 51.0, False), (Flow(7, 51.0, None, 1), FlowChange.FLOWS))
         self.assertEqual(Flow(7, 51.0, None, 1).update(8, 99.0, True), (Flow(8, 99.0, None, 1), None))
-
-    def test_who_goes(self) -> None:
-        """The one idle for longest; one that follows events behind the others, and one that holds calls last."""
-        idle, busy, follows, old, holds, front = (
-            SimpleNamespace(follows=its, last=last, holds=are_held) for its, last, are_held in (
-                (False, 5.0, False), (False, 9.0, False), (True, 1.0, False), (True, 0.0, False), (False, 0.0, True),
-                (True, 0.0, True)))
-        for clients, gone in (([busy, idle, follows, old], idle), ([follows, busy], busy), ([follows, old], old),
-                              ([holds, follows], follows), ([front, busy, holds], busy), ([front, holds], holds)):
-            self.assertIs(choose_evicted(clients), gone)

@@ -22,7 +22,7 @@ from unittest import mock
 from . import support
 from .logs import WrittenLog
 from e1gw.events import Event, Fed, NotFed
-from e1gw.holder.log import user_of
+from e1gw.holder.log import process_that_locks
 from e1gw.holder_state import TrunkPlaces
 from e1gw.watcher import standby
 from e1gw.watcher.blocks import BlockedCircuits, KeptBlocks
@@ -347,11 +347,11 @@ class FedLogTests(support.FolderCase):
         fed, path = FedLog(self.folder, 0, 0), TrunkPlaces(self.folder).fed
         self.addCleanup(fed.close)
         fed.move_to(path)
-        users = [user_of(path)]
+        lockers = [process_that_locks(path)]
         for does in fed.unlock, fed.lock, fed.unlock:
             does()
-            users.append(user_of(path))
-        self.assertEqual(users, [os.getpid(), 0, os.getpid(), 0])
+            lockers.append(process_that_locks(path))
+        self.assertEqual(lockers, [os.getpid(), 0, os.getpid(), 0])
         os.rename(path, self.path('log'))
         with self.assertRaises(FileNotFoundError):
             fed.lock()

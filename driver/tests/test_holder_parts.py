@@ -234,13 +234,13 @@ class HeldLogTests(FolderCase):
 
     def test_who_has_it_locked(self) -> None:
         """By the kernel: what the file says may be of a process that has ended."""
-        self.assertEqual(log.user_of(self.log), 0)
+        self.assertEqual(log.process_that_locks(self.log), 0)
         self.write('log/lock', '1\n')
-        self.assertEqual(log.user_of(self.log), 0)
+        self.assertEqual(log.process_that_locks(self.log), 0)
         with open(f'{self.log}/lock', 'rb') as file:
             for how in fcntl.LOCK_EX, fcntl.LOCK_SH:
                 fcntl.flock(file, how)
-                self.assertEqual(log.user_of(self.log), os.getpid())
+                self.assertEqual(log.process_that_locks(self.log), os.getpid())
             self.assertFalse(log.has_log(os.getpid(), self.log))
         with subprocess.Popen(['sh', '-c', 'read x', 'trunk', '--log', self.log], stdin=subprocess.PIPE) as process:
             support.until(lambda: log.has_log(process.pid, self.log))

@@ -73,7 +73,7 @@ class TakenLogTests(RoleCase):
         """Without room for a copy it is taken as it is."""
         self.log('fed', 'fed')
         with mock.patch.object(HeldLog, 'put_back', side_effect=OSError(28, 'No space left on device')), \
-                mock.patch.object(roles, 'user_of', return_value=-1):
+                mock.patch.object(roles, 'process_that_locks', return_value=-1):
             take_log(self.holder, 5.0)
         self.assertEqual((self.found(), self.holder.lost), ({'log': 'fed'}, ''))
         self.assertTrue(self.holder.log.are_in(self.path('log')))
@@ -92,7 +92,7 @@ class TakenLogTests(RoleCase):
         self.log('fed', 'fed', 1000.0)
         with mock.patch.object(roles, 'MOST_AGE', 2000.0):
             take_log(self.holder, 5000.0)
-        self.assertAlmostEqual(self.holder.silent, 4000.0, delta=support.SECONDS)
+        self.assertAlmostEqual(self.holder.down_since, 4000.0, delta=support.SECONDS)
 
     def test_what_is_given(self) -> None:
         """The log is as if it had been fed; without one what was fed stays."""

@@ -107,11 +107,11 @@ class CountedToTheEndTests(TrunkWatchCase):
         found = self.watched()
         found.blocks = mock.Mock()
         setattr(found.client, 'report_event', found.report_event)
-        found._lines.begin(0)
-        found._lines.take('\n'.join([*BEGIN, row(3, 'answered', '00 01'), 'now', '']).encode())
+        found._state.begin(0)
+        found._state.take('\n'.join([*BEGIN, row(3, 'answered', '00 01'), 'now', '']).encode())
         news = [b''.join(datagram_record(3, rtp(number, 0, 7)) for number in (5, 6, 9))]
         setattr(found.trunk.reader, 'read', lambda: found.counts.take_records(news.pop() if news else b''))
-        found._lines.take(f'{row(3, "releasing")}\n'.encode())
+        found._state.take(f'{row(3, "releasing")}\n'.encode())
         self.assertEqual(CallLine(*found.client.calls.lines[0].split(',')).lost, '2')
 
 

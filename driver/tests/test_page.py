@@ -24,11 +24,11 @@ from e1gw.ctl_all import TrunkHere, TrunkLine
 from e1gw.events import (AlarmChanged, BlockNews, CardAlarm, CardAlarmChanged, Connected, Crc4Change, Crc4Changed,
                          Disconnected, Event, Fed, Flows, LineChanged, NotFed, ReadEvents, RemoteAlarmChanged, Slip,
                          SlotsChange, SlotsChanged, Stalled, TrunkLost, TrunkOpened, WrongRate)
+from e1gw.files_status import FilesStatus
 from e1gw_common.lines import Alignment, Line, LineStatus, Role, State
 from e1gw.metrics import NOT_OPEN, head_of
 from e1gw.satop import SatopStatus
 from e1gw.status import CircuitStatus, MachineRole, PairStatus, ToldStatus, TransportStatus, TrunkStatus
-from e1gw.trunk_files import TrunkFiles
 from e1gw.watcher import http_pages
 from e1gw.watcher.options import kept_of
 from e1gw.watcher.page import (POLICY, Look, Parts, ShownRow, circuit_row, ended_row, length, message_of, page_of,
@@ -120,7 +120,7 @@ class PageTextTests(unittest.TestCase):
         row = CircuitStatus(line=LineStatus(1), deaf=EVIL)
         for host, link in (('127.0.0.1', '//\0:9102/'), ('0.0.0.0', '//\0:9102/'), ('192.0.2.7', '//192.0.2.7:9102/'),
                            ('2001:db8::1', '//[2001:db8::1]:9102/'), ('"><b>', '//&quot;&gt;&lt;b&gt;:9102/')):
-            status = TrunkStatus(files=TrunkFiles(http=(host, 9102)), circuits=(row,))
+            status = TrunkStatus(files=FilesStatus(http=(host, 9102)), circuits=(row,))
             text = trunks_page([TrunkHere(True, TrunkLine(EVIL, state=EVIL), status)], '127.0.0.1').decode()
             shown = ShownTables(text)
             self.assertIn(f'<a href="{link}">', text)
@@ -134,10 +134,10 @@ class PageTextTests(unittest.TestCase):
         packets are missing shows at its square."""
         call = CallLine(*[''] * len(CallLine._fields))._replace(circuit='7', lost='5')
         row = CircuitStatus(line=LineStatus(7, Role.OUTGOING, State.ACKED))
-        well = replace(WELL, files=TrunkFiles(http=('', 9102)), circuits=(row,), calls=(call,))
+        well = replace(WELL, files=FilesStatus(http=('', 9102)), circuits=(row,), calls=(call,))
         for is_here, status, is_red in ((True, None, True), (False, None, False), (True, well, False),
                                         (True, replace(well, told=ToldStatus(trunk_up=False)), True),
-                                        (True, replace(well, files=TrunkFiles(), fault='x'), False)):
+                                        (True, replace(well, files=FilesStatus(), fault='x'), False)):
             text = trunk_row(TrunkHere(is_here, TrunkLine('a', state='b'), status), '')
             self.assertEqual('<td class="bad">b</td>' in text, is_red, text)
         self.assertIn('<i class="poor" data-s="acked"', trunk_row(TrunkHere(True, TrunkLine('a'), well), ''))
@@ -150,7 +150,7 @@ class PageTextTests(unittest.TestCase):
                 (None, State.ANSWERED, None, 'answered'), (None, State.FAULT, BlockNews.BLOCKED, 'fault, blocked'),
                 (None, State.ACKED, BlockNews.BLOCKING, 'acked, blocking'), ('x', State.IDLE, None, NOT_OPEN)):
             row = CircuitStatus(line=LineStatus(7, Role.OUTGOING, state), blocked=blocked)
-            status = TrunkStatus(fault=fault, files=TrunkFiles(http=('', 9102)), circuits=(row,))
+            status = TrunkStatus(fault=fault, files=FilesStatus(http=('', 9102)), circuits=(row,))
             self.assertEqual(circuit_row(status, row).cells[:3], ['7', words, 'outgoing'])
             self.assertIn(f'data-s="{words}" title="7 {words}">',
                           trunk_row(TrunkHere(True, TrunkLine('a'), status), ''))

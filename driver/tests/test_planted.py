@@ -88,14 +88,14 @@ class PlantedLineTests(TrunkWatchCase):
     async def asyncSetUp(self) -> None:
         await super().asyncSetUp()
         self.its = self.watched()
-        self.lines = self.its._lines
-        setattr(self.lines, '_clock', lambda: self.now)
+        self.state = self.its._state
+        setattr(self.state, '_clock', lambda: self.now)
         self.its.blocks = mock.Mock(**{'kept.now.word.return_value': None})
-        self.lines.begin(4096)
-        self.lines.take('\n'.join([*BEGIN, 'now', '']).encode())
+        self.state.begin(4096)
+        self.state.take('\n'.join([*BEGIN, 'now', '']).encode())
 
     def tell(self, changes: Mapping[int, str]) -> None:
-        self.lines.take(''.join(f'{row(n, state)}\n' for n, state in changes.items()).encode())
+        self.state.take(''.join(f'{row(n, state)}\n' for n, state in changes.items()).encode())
 
     async def test_lines(self) -> None:
         """Also behind another program, which tells the state of now."""
@@ -103,10 +103,10 @@ class PlantedLineTests(TrunkWatchCase):
             self.now += seconds
             self.tell(changes)
             if number == 3:                 # (the call of circuit 3 is in its last state, and others are idle)
-                self.lines.on_disconnect()
-                self.lines.begin(8192)
+                self.state.on_disconnect()
+                self.state.begin(8192)
                 rows = [*IDLE[:2], row(3, 'clearedback')[5:], *IDLE[3:]]
-                self.lines.take('\n'.join([*BEGIN[:3], *(f'line {each}' for each in rows), 'now', '']).encode())
+                self.state.take('\n'.join([*BEGIN[:3], *(f'line {each}' for each in rows), 'now', '']).encode())
         shown = Shown(self.its.known_status())
         for n, seconds in open_seconds().items():
             its = shown.status.circuits[n - 1].line
@@ -122,8 +122,8 @@ class PlantedLineTests(TrunkWatchCase):
             self.tell({n: state})
         for seconds in 0.0, 3.0, 20.0:
             self.now += seconds
-            self.its._restarts.request(self.lines.open_circuits(), 'gap of 0.250 s')
-            self.its._restarts.restart_due(self.now, 0, self.lines.open_circuits(), True)
+            self.its._restarts.request(self.state.open_circuits(), 'gap of 0.250 s')
+            self.its._restarts.restart_due(self.now, 0, self.state.open_circuits(), True)
             self.tell({6: 'idle'})
         await asyncio.sleep(0)
         given = [record for record in self.given if record[:1] == b'K']

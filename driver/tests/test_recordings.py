@@ -229,11 +229,11 @@ class LogReaderTests(support.LoopCase):
             await asyncio.sleep(0)
             with listener.accept()[0] as line:
                 line.sendall('\n'.join([*BEGIN, 'now', '']).encode())
-                await self.until(lambda: its.lines.live)
+                await self.until(lambda: its.state.live)
                 self.reader.has_missed = True
                 for state in 'seized', 'acked':
                     line.sendall(f'{row(1, state)}\n'.encode())
-                    await self.until(lambda: its.lines.lines[1].state == state)
+                    await self.until(lambda: its.state.lines[1].state == state)
                 self.assertTrue(self.reader.has_missed)
             follows.cancel()
             await asyncio.wait([follows])

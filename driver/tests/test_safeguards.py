@@ -54,7 +54,7 @@ class SpeechTests(unittest.TestCase):
         """It is not played where no program was there for more than a second."""
         for silence, drops in (0.9, 0), (1.1, 1):
             sockets = mock.Mock(lacking={})
-            lifecycle.bind_sockets(mock.Mock(silent=50.0, sockets=sockets), 50.0 + silence)
+            lifecycle.bind_sockets(mock.Mock(down_since=50.0, sockets=sockets), 50.0 + silence)
             self.assertEqual((sockets.drop_old.call_count, sockets.bind.call_count), (drops, 1))
 
     def test_a_machine_that_has_no_trunk(self) -> None:

@@ -120,7 +120,7 @@ class ToldTests(unittest.TestCase):
 
     def test_a_refused_command_counts_nothing(self) -> None:
         given: list[bytes] = []
-        self.told.commanded = given.append
+        self.told.on_command_told = given.append
         self.take('command 1 1 2', 'command 16 3 1', 'codec 1 2 95 31')
         self.assertEqual(given, [b'C\1\0\1\1', b'C\x10\0\1\3', b'K\1\0\2\2\x5f'])
         self.assertEqual((self.circuit()['seizures'], self.circuit(16)['answers'], self.events), (0, 0, []))
@@ -233,16 +233,16 @@ class ReportReadingTests(support.LoopCase):
             await asyncio.sleep(0)
             with listener.accept()[0] as line:
                 line.sendall('\n'.join([*BEGIN, 'now', '']).encode())
-                await self.until(lambda: its.lines.live)
+                await self.until(lambda: its.state.live)
                 await asyncio.sleep(0.01)           # (it waits for more)
                 line.sendall(f'{row(1, "seized", "00 10")}\n'.encode())
                 await asyncio.sleep(0)
                 await asyncio.sleep(0)              # (the loop has seen it, and nobody was woken yet)
                 line.sendall(f'{row(1, "acked", "00 11")}\n'.encode())
                 its.take_now()
-                await self.until(lambda: its.lines.lines[1].state == 'acked')
+                await self.until(lambda: its.state.lines[1].state == 'acked')
                 line.sendall(b'alarms perhaps\n')
-                await self.until(lambda: not its.lines.live)
+                await self.until(lambda: not its.state.live)
             follows.cancel()
             await asyncio.wait([follows])
         self.assertEqual([each.state for each in events if isinstance(each, LineChanged)], ['seized', 'acked'])

@@ -16,7 +16,7 @@ from . import support
 from .test_tell_lines import BEGIN, counts, row
 from e1gw.call_names import CallNames
 from e1gw.calls import CallLog, CallsNote
-from e1gw.clock import ClockFinding, ClockStatus, TrunkRate
+from e1gw.clock import ClockFinding, ClockStatus
 from e1gw.events import (Burst, CallsCleared, Event, FlowChanged, Flows, RateChanged, ReadEvents, Slip, Stalled,
                          WatchEnded)
 from e1gw_common import line_files
@@ -24,8 +24,9 @@ from e1gw_common.answers import CommandCount
 from e1gw_common.lines import Line, LineStatus, Role, State
 from e1gw.resyncs import Resyncs
 from e1gw.status import MachineRole, PairStatus
+from e1gw.trunk_rate import TrunkRate
 from e1gw.watcher import flow, tell_client, watch
-from e1gw.watcher.commands import MOST_HELD, ControlPeer
+from e1gw.watcher.commands import MOST_HELD, ControlPeer, choose_evicted
 from e1gw.watcher.connection import ProgramConnection
 from e1gw.watcher.journal import NOTICE, LineFormatter
 from e1gw.watcher.missed import MissedReports
@@ -73,11 +74,11 @@ class WatchEdgeTests(TrunkWatchCase):
         for what, event, given in rows:
             found = self.watched()
             for n, state in ((3, State.ANSWERED), (4, State.SEIZED)):
-                found._lines.lines[n].begin(state, 0.0)
+                found._state.lines[n].begin(state, 0.0)
             with mock.patch.object(found, 'report_event') as tells:
                 found.on_clock_finding(ClockFinding(what, 0.25))
             self.assertEqual(tells.mock_calls, [mock.call(event)])
-            found._restarts.restart_due(100.0, 0, found._lines.open_circuits(), True)
+            found._restarts.restart_due(100.0, 0, found._state.open_circuits(), True)
             await asyncio.sleep(0)
             self.assertEqual([record[:2] for record in self.given], given)
             self.assertEqual(found.known_status().renewed, len(given))
@@ -97,15 +98,15 @@ class WatchEdgeTests(TrunkWatchCase):
                   row(3, 'answered', '00 01'), row(5, 'fault'), counts(3, 9, Late=2)]
         setattr(found.client, 'report_event', found.report_event)
         found.blocks = mock.Mock(**{'kept.now.word.return_value': None})
-        found._lines.begin(4096)
-        found._lines.take('\n'.join([*BEGIN, 'now', *commands, *change, '']).encode())
+        found._state.begin(4096)
+        found._state.take('\n'.join([*BEGIN, 'now', *commands, *change, '']).encode())
         found.counts.circuits[3].numbers.before = 5
         found.count(3, 'seize', 'done')
         found._resyncs = 4
-        found._lines.lines[3].opened = time.monotonic() - 5.0
+        found._state.lines[3].opened = time.monotonic() - 5.0
         calls, shown, wanted = found.client.calls_note(), found.page_notes(), found.known_status()
         assert calls
-        found._lines.take('\n'.join([row(3, 'fault'), row(5, 'idle'), row(4, 'answered'), '']).encode())
+        found._state.take('\n'.join([row(3, 'fault'), row(5, 'idle'), row(4, 'answered'), '']).encode())
         later = self.watched()
         later.blocks = found.blocks
         later.restore_shown(typed(watch.ShownNote, json.loads(json.dumps(shown, default=vars))))
@@ -123,10 +124,10 @@ class WatchEdgeTests(TrunkWatchCase):
         self.assertEqual((its.circuits[2].packets.lost, its.circuits[2].packets.datagrams['Late']), (5, 2))
         naming, lines = CallNames(self.path('trunk.toml.calls')), {n: Line(n) for n in CIRCUITS}
         naming.begin('another', {n: 0 for n in CIRCUITS}, lines)
-        self.assertEqual([counted(lines[n]) for n in (3, 4, 5)], [counted(found._lines.lines[n]) for n in (3, 4, 5)])
+        self.assertEqual([counted(lines[n]) for n in (3, 4, 5)], [counted(found._state.lines[n]) for n in (3, 4, 5)])
         for begun, late, all_late in (4096, 2, 2), (8192, 1, 3):        # (the same session, and then another one)
-            later._lines.begin(begun)
-            later._lines.take('\n'.join([*BEGIN, row(3, 'answered', '00 01', (0, 9, all_late)), counts(
+            later._state.begin(begun)
+            later._state.take('\n'.join([*BEGIN, row(3, 'answered', '00 01', (0, 9, all_late)), counts(
                 3, 9, Late=late), 'now', '']).encode())
             self.assertEqual(later.known_status().circuits[2].packets.datagrams['Late'], all_late)
 
@@ -154,16 +155,17 @@ class WatchEdgeTests(TrunkWatchCase):
         """It is reported where that was, the program is not blamed, and all others are told."""
         change = '\n'.join([row(3, 'seized', '00 10'), 'command 3 1 0', counts(3, 1), 'alarms 1 0 0 0', ''])
         for kind, what in ((CallLog, 'on_state_change'), (CallNames, 'note_states'), (ReadEvents, 'take'),
-                           (TrunkPages, 'mark_stale'), (ProgramConnection, 'on_record'), (Resyncs, 'count_answers')):
+                           (TrunkPages, 'mark_stale'), (ProgramConnection, 'on_command_told'),
+                           (Resyncs, 'count_answers')):
             with self.subTest(what), mock.patch.object(kind, what, side_effect=KeyError('odd')):
                 found = self.watched()
                 found.blocks, follower = mock.Mock(), mock.Mock()
                 setattr(found.client, 'report_event', found.report_event)
                 setattr(found._server, 'followers', lambda: [follower])
-                found._lines.begin(0)
-                found._lines.take('\n'.join([*BEGIN, 'now', '']).encode())
+                found._state.begin(0)
+                found._state.take('\n'.join([*BEGIN, 'now', '']).encode())
                 with self.assertLogs(level='DEBUG') as logs:
-                    found._lines.take(change.encode())
+                    found._state.take(change.encode())
                 told = [json.loads(call.args[0])['event'] for call in follower.send_line.mock_calls]
                 self.assertEqual(told, ['state', 'lost', 'alarm'])
                 self.assertIn("the watch of the trunk goes on: KeyError: 'odd' (", ''.join(logs.output))
@@ -174,8 +176,8 @@ class WatchEdgeTests(TrunkWatchCase):
         found.blocks = mock.Mock()
         lines = [*BEGIN, row(3, 'answered', '00 11'), 'now']
         lines += [each for n in range(1, 5) for each in (f'at {30_000 * n}', counts(3, 0, Full=n))]
-        found._lines.begin(0)
-        found._lines.take('\n'.join([*lines, '']).encode())
+        found._state.begin(0)
+        found._state.take('\n'.join([*lines, '']).encode())
         found._check()
         await self.until(lambda: self.given)
         self.assertEqual([record[:2] for record in self.given], [b'K\x03'])
@@ -208,7 +210,7 @@ class WatchEdgeTests(TrunkWatchCase):
                     mock.patch.object(tell_client, 'logger') as told:
                 await its._catch_up(missed.last)
             self.assertEqual([call.args[1] for call in told.warning.call_args_list], [2.0] * is_known)
-            self.assertEqual(its.lines.place, missed.last * is_known)
+            self.assertEqual(its.state.place, missed.last * is_known)
 
     async def test_circuits_that_are_configured_otherwise(self) -> None:
         """Of those a reload has ended the calls."""
@@ -229,6 +231,16 @@ class WatchEdgeTests(TrunkWatchCase):
                 ControlPeer(writer).send_line('words')
             self.assertEqual((writer.write.call_count, writer.transport.abort.call_count), calls)
 
+    def test_who_gives_way(self) -> None:
+        """The one idle for longest; one that follows events behind the others, and one that holds calls last."""
+        idle, busy, follows, old, holds, front = (
+            ControlPeer(mock.Mock(), are_held, its, last) for its, last, are_held in (
+                (False, 5.0, False), (False, 9.0, False), (True, 1.0, False), (True, 0.0, False), (False, 0.0, True),
+                (True, 0.0, True)))
+        for peers, gone in (([busy, idle, follows, old], idle), ([follows, busy], busy), ([follows, old], old),
+                            ([holds, follows], follows), ([front, busy, holds], busy), ([front, holds], holds)):
+            self.assertIs(choose_evicted(peers), gone)
+
     async def test_who_is_cleared(self) -> None:
         """What this end can end; and idle incoming circuits are blocked if that is wanted."""
         out, come = Role.OUTGOING, Role.INCOMING
@@ -239,7 +251,7 @@ class WatchEdgeTests(TrunkWatchCase):
             found = self.watched()
             kinds = [(role, state) for role in (out, come) for state in State if str(state) != 'unknown']
             wanted = commands | ({(come, State.IDLE): Command.BLOCK} if blocks else {})
-            for n, line in found._lines.lines.items():
+            for n, line in found._state.lines.items():
                 line.role, state = kinds[n - 1] if n <= len(kinds) else (out, State.FAULT)
                 line.begin(state, 0.0)
             with mock.patch.object(found, 'report_event') as tell:

@@ -47,10 +47,10 @@ class Holder:
         self.ending, self.status = '', None     # type: str, int | None
         self.is_active = True                   # this holder is to have the trunk
         self.was_up, self.why, self.lost = False, 'begins', ''      # in words, of the next program
-        self.silent, self.since = time.monotonic(), time.time()     # since when no program is up; since when one is
+        self.down_since, self.since = time.monotonic(), time.time()     # since when no program is up; since when one is
         self.deaths, self.renewals, self.due, self._ticked = Deaths(), Renewals(), 0.0, 0.0
         self._waits = self._failed = ''
-        self.log_user, self.lock = (0, 0.0), -1     # who has the log locked, and since when; the lock of the trunk
+        self.log_locker, self.lock = (0, 0.0), -1       # who has the log locked, and since when; the lock of the trunk
         loop.on_signal = self.reloads.on_signal
 
     # ---- turns ----

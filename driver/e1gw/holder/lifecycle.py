@@ -17,7 +17,7 @@ from .decisions import FIRST_PAUSE, Decision, EndFault, EndOfProgram, EndReason,
 from .job import Job
 from .job_types import JobRequest
 from .journal import Severity, log_line
-from .log import has_log, is_there, rename_over, user_of
+from .log import has_log, is_there, process_that_locks, rename_over
 from .program import CRASHES, HeldProgram, ProgramWants, counted_octets, end_words, fault_in, open_said
 from .version import Version
 
@@ -105,18 +105,18 @@ def wait_for_log(holder: Holder, now: float) -> bool:
     """Whether a process has the log locked. A program that no holder has on its leash ends in a moment, or is killed;
     anybody else is named and waited for."""
     log = f'{holder.folder}/log'
-    pid = user_of(log)
+    pid = process_that_locks(log)
     if not pid:
-        holder.log_user = 0, now
+        holder.log_locker = 0, now
         return False
     is_left = pid > 0 and has_log(pid, log)
-    if pid != holder.log_user[0]:
-        holder.log_user = pid, now
+    if pid != holder.log_locker[0]:
+        holder.log_locker = pid, now
         if not is_left:
             log_line(Severity.ERROR, f'the log is in use by {name_of(pid)}: the next program waits for that')
-    if is_left and now >= holder.log_user[1] + LEFT:
+    if is_left and now >= holder.log_locker[1] + LEFT:
         log_line(Severity.WARNING, f'program {pid} goes on without a holder, and is killed')
-        holder.log_user = pid, now
+        holder.log_locker = pid, now
         with suppress(OSError):
             os.kill(pid, signal.SIGKILL)
     holder.due = now + (SOON if is_left else FIRST_PAUSE)
@@ -134,7 +134,7 @@ def bind_sockets(holder: Holder, now: float) -> None:
     """The circuits' sockets."""
     version, sockets = holder.versions.now, holder.sockets
     assert version
-    if now > holder.silent + OLD:
+    if now > holder.down_since + OLD:
         sockets.drop_old()
     known = {*sockets.lacking}
     sockets.bind(version.its.ports)
@@ -146,7 +146,7 @@ def on_program_up(holder: Holder, now: float) -> None:
     """A program carries the trunk."""
     program, versions = holder.program, holder.versions
     assert program
-    after = f'goes on after {(now - holder.silent) * 1000:.0f} ms' if holder.was_up else 'carries the trunk'
+    after = f'goes on after {(now - holder.down_since) * 1000:.0f} ms' if holder.was_up else 'carries the trunk'
     words = f'{holder.why}: program {program.pid} {after}{holder.lost}'
     holder.was_up, holder.since = True, time.time()
     versions.on_up(now)
@@ -177,7 +177,7 @@ def on_program_exit(holder: Holder, program: HeldProgram, status: int, now: floa
     words = 'hangs, and was killed' if program.hangs else end_words(status, lines)
     is_asked = end.reason is not EndReason.NONE
     if program.asked or program.is_up:
-        holder.silent = program.asked or now
+        holder.down_since = program.asked or now
     holder.why = str(end.reason.value) if is_asked and end.is_well else f'the program {words}'
     if end.was_up:                          # (else what was lost before it is still to be told)
         holder.lost = '' if end.is_well else LOST

@@ -112,7 +112,7 @@ def silence_of(folder: str) -> float:
     return 0.0
 
 
-def user_of(folder: str) -> int:
+def process_that_locks(folder: str) -> int:
     """The number of the process that has a log locked: 0 if none has, -1 if it is not seen from here."""
     try:
         file = os.open(f'{folder}/{LOCK}', os.O_RDONLY | os.O_CLOEXEC)

@@ -103,7 +103,7 @@ def begin(holder: Holder) -> None:
         holder.since = before.get('since', holder.since)
         resume_replaced(holder, store.was)
     elif how is Beginning.KILLED:
-        holder.silent -= silence_of(log)
+        holder.down_since -= silence_of(log)
         holder.lost = LOST if has_died(holder.folder) else ''
         if 'DSCP' in os.environ:            # (it marks what this cgroup has opened, and that of before is gone)
             holder.sockets.close_others(())

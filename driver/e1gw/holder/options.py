@@ -7,6 +7,7 @@ from typing import Callable, Mapping, NamedTuple
 
 from e1gw_common.addresses import host_and_port
 from ..holder_state import MEMORY, folder_in_memory
+from ..trunk_name import trunk_name
 from ..trunks import Stream, open_tcp, open_unix
 
 NAME = 'e1gw-trunk'
@@ -97,9 +98,7 @@ def options_of(words: list[str], around: Mapping[str, str]) -> Options:
     if not asked['config']:
         raise ValueError('--config is wanted')
     config = os.path.abspath(asked['config'])
-    name = asked['name'] or os.path.splitext(os.path.basename(config))[0]
-    if '/' in name or not name.isprintable() or name in ('.', '..'):
-        raise ValueError(f'--name {name!r} is no name of a file')
+    name = trunk_name(asked['name'], config)
     within = asked['folder'] or around.get('RUNTIME_DIRECTORY', '').partition(':')[0] or MEMORY
     folder = os.path.join(os.path.abspath(within), f'{name}-{os.getuid()}')
     for path in (f'{each}/{LONGEST}' for each in (folder, folder_in_memory(folder))):

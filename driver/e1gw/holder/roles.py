@@ -8,7 +8,7 @@ from e1gw_common.fault_words import words_of_fault
 from .decisions import EndReason
 from .journal import Severity, log_line
 from .lifecycle import ANEW
-from .log import is_there, remove, rename_over, silence_of, user_of
+from .log import is_there, process_that_locks, remove, rename_over, silence_of
 from .requests import HolderRequest
 
 if TYPE_CHECKING:
@@ -41,11 +41,11 @@ def change_role(holder: Holder, request: HolderRequest, now: float) -> None:
 def take_log(holder: Holder, now: float) -> None:
     """What was fed here is the log. The trunk begins anew if there is none, or it is old."""
     log, fed = f'{holder.folder}/log', f'{holder.folder}/fed'
-    holder.why, holder.was_up, holder.lost, holder.silent = 'promoted', True, '', now
+    holder.why, holder.was_up, holder.lost, holder.down_since = 'promoted', True, '', now
     holder.log.close()
     remove(log)
     if is_there(fed) and (age := silence_of(fed)) <= MOST_AGE:
-        holder.silent -= age
+        holder.down_since -= age
         move_log(holder, fed, log)
         holder.log.hold(log)
     else:
@@ -56,7 +56,7 @@ def take_log(holder: Holder, now: float) -> None:
 def move_log(holder: Holder, fed: str, log: str) -> None:
     """What was fed is in its place. It is copied if a process has it locked, who may hang, and write to it later."""
     try:
-        if user_of(fed):
+        if process_that_locks(fed):
             holder.log.hold(fed)
             holder.log.put_back(log)
     except OSError as fault:

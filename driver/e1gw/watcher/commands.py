@@ -26,7 +26,7 @@ import asyncio
 import contextlib
 import time
 from dataclasses import dataclass, field
-from typing import TYPE_CHECKING
+from typing import TYPE_CHECKING, Iterable
 
 from e1gw_common.answers import refused
 from e1gw_common.report import json_line
@@ -34,7 +34,6 @@ from e1gw_common.session import Codec, Command, circuit_of, circuits_of, codec_r
 from e1gw_common.tasks import Tasks
 from ..events import WatchEnded
 from ..metrics import circuit_table
-from .control_clients import choose_evicted
 
 if TYPE_CHECKING:
     from .watch import TrunkWatch
@@ -56,8 +55,8 @@ class ControlPeer:
 
     writer: asyncio.StreamWriter
     holds: bool = False         # calls are cleared when he is gone
-    follows: bool = False
-    last: float = field(default_factory=time.monotonic)
+    follows: bool = False       # events
+    last: float = field(default_factory=time.monotonic)     # when he has said something
 
     def send_line(self, line: str) -> None:
         """Sends a line; nothing to one who is gone."""
@@ -73,6 +72,12 @@ class ControlPeer:
             self.writer.transport.abort()
         else:
             self.writer.transport.close()
+
+
+def choose_evicted(peers: Iterable[ControlPeer]) -> ControlPeer:
+    """Who gives way to one more: the one idle for longest, of those who follow no events and hold no calls if there are
+    any, else of those who hold none."""
+    return min(peers, key=lambda each: (each.holds, each.follows, each.last))
 
 
 class CommandServer:
@@ -184,7 +189,7 @@ class CommandServer:
         if not circuit:
             return NO_CIRCUIT.lines(f'codec {words[0][:40]}')
         front = f'codec {circuit}'
-        if fault := codec_fault(words[1:3], trunk.client.lines.law):
+        if fault := codec_fault(words[1:3], trunk.client.state.law):
             return refused(fault).lines(front)
         record = codec_record(circuit, CODECS[words[1]], int(words[2]))
         answer = await trunk.command(record, circuit, ' '.join(['codec', *words[1:]]))

@@ -37,12 +37,12 @@ class GivenRecord:
 
 class ProgramConnection:
     """Gives records to the program that listens at a socket. `stands` is called with whether there is one, and why
-    not; `hurry` while an answer waits for its report, so that it is read at once."""
+    not; `read_reports_now` while an answer waits for its report."""
 
-    def __init__(self, path: Callable[[], str], stands: Callable[[str, bool, str], None], hurry: Callable[[], None],
-                 fault: Callable[[], str]) -> None:
+    def __init__(self, path: Callable[[], str], stands: Callable[[str, bool, str], None],
+                 read_reports_now: Callable[[], None], fault: Callable[[], str]) -> None:
         """`fault` says why there is no program, if that is known."""
-        self._path, self._stands, self._hurry, self._fault = path, stands, hurry, fault
+        self._path, self._stands, self._read_reports_now, self._fault = path, stands, read_reports_now, fault
         self._given = deque[GivenRecord]()
         self._writer: asyncio.StreamWriter | None = None
         self._lost = time.monotonic()           # when the last connection was
@@ -82,29 +82,30 @@ class ProgramConnection:
             if not each.answer.done():
                 each.answer.set_exception(NoAnswer('no answer, the connection to the program is lost', True))
 
-    async def ask(self, record: bytes, teller: Callable[[], object], waits: bool = True) -> Record:
-        """The answer to a record, once the record is reported, too: what follows from it is known
-        then. `teller` is who tells now, None if nobody; one that came behind the record may not tell of it. With no
-        program it `waits` for the next one. A record is given once. NoAnswer if there is none."""
+    async def ask(self, record: bytes, report_connection: Callable[[], object], waits: bool = True) -> Record:
+        """The answer to a record, once the record is reported, too: what follows from it is known then.
+        `report_connection` returns the connection at which reports come now, or None. If it is another one than when
+        the record was given, the report may never come and is not waited for. With no program it `waits` for the next
+        one. A record is given once. NoAnswer if there is none."""
         while waits and not self._writer and not self._fault() and time.monotonic() < self._lost + NEXT:
             await asyncio.sleep(SOON)
         if not self._writer:
             raise NoAnswer(self._fault() or 'no connection to the program', False)
         self._given.append(given := GivenRecord(record, asyncio.get_running_loop().create_future()))
         self._writer.write(record)
-        its = teller()
+        reports = report_connection()
         try:
             answer = await given.answer
             until = time.monotonic() + PATIENCE
-            while its and teller() is its and not given.told.is_set() and time.monotonic() < until:
-                self._hurry()
+            while reports and report_connection() is reports and not given.told.is_set() and time.monotonic() < until:
+                self._read_reports_now()
                 await asyncio.sleep(SOON)
             return answer
         finally:
             with suppress(ValueError):
                 self._given.remove(given)
 
-    def on_record(self, record: bytes) -> None:
+    def on_command_told(self, record: bytes) -> None:
         """A record is reported."""
         for each in self._given:
             if each.record == record and not each.told.is_set():

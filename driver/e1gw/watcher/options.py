@@ -11,6 +11,7 @@ from e1gw_common.faults import checked, number
 from e1gw_common.tls import add_tls, is_exposed
 from ..holder_state import MEMORY, folder_in_memory
 from ..recording_ring import seconds_of
+from ..trunk_name import trunk_name
 from .recordings import RecordingWants
 from .watch import WatchWants
 
@@ -68,9 +69,10 @@ def add_names(words: argparse._ArgumentGroup) -> None:
                        'or e1gw]')
     words.add_argument('--folder', metavar='DIR', help=f'where the folder of the trunk is [default: RUNTIME_DIRECTORY, '
                        f'or {MEMORY}]')
-    words.add_argument('--control-mode', type=checked(mode_of, 'a mode of a file, as 660'), default=0o660,
-                       metavar='MODE', help='the mode of --control, in octal [default: 660]')
-    words.add_argument('--control-group', metavar='GROUP', help='its group')
+    words.add_argument('--control-mode', type=checked(mode_of, 'a mode of a file, as 660'),
+                       default=WatchWants.control_mode, metavar='MODE',
+                       help=f'the mode of --control, in octal [default: {WatchWants.control_mode:o}]')
+    words.add_argument('--control-group', default=WatchWants.control_group, metavar='GROUP', help='its group')
     words.add_argument('-h', '--help', action='help', help='prints this')
 
 
@@ -84,18 +86,10 @@ def add_pair(words: argparse._ArgumentGroup) -> None:
 
 # ---- what they ask for ----
 
-def name_of(asked: argparse.Namespace) -> str:
-    """ValueError if no file or page could have it."""
-    name = str(asked.name or os.path.splitext(os.path.basename(asked.config))[0])
-    if '/' in name or not name.isprintable():
-        raise ValueError(f'--name {name!r} is no name: it has a / or what cannot be printed')
-    return name
-
-
 def folder_of(asked: argparse.Namespace) -> str:
     """The folder of this trunk: the same for each start, whatever else its options say."""
     within = asked.folder or os.environ.get('RUNTIME_DIRECTORY', '').partition(':')[0] or MEMORY
-    return os.path.join(os.path.realpath(within), f'{name_of(asked)}-{os.getuid()}')
+    return os.path.join(os.path.realpath(within), f'{trunk_name(asked.name, asked.config)}-{os.getuid()}')
 
 
 def folder_now(asked: argparse.Namespace) -> str:
@@ -118,8 +112,8 @@ def recording_of(asked: argparse.Namespace, wait: int) -> RecordingWants | None:
         raise ValueError('--keep wants --session')
     if asked.picture and not (asked.http and asked.keep):
         raise ValueError('--picture wants --http, and --session with --keep')
-    return RecordingWants(os.path.abspath(asked.session), asked.keep, name_of(asked), os.path.abspath(asked.config),
-                          wait) if asked.session else None
+    return RecordingWants(os.path.abspath(asked.session), asked.keep, trunk_name(asked.name, asked.config),
+                          os.path.abspath(asked.config), wait) if asked.session else None
 
 
 def kept_of(asked: argparse.Namespace) -> str | None:
@@ -136,7 +130,7 @@ def watched_of(asked: argparse.Namespace, program: str) -> WatchWants:
     """What an operator wants to have of it, drawn by this program."""
     picture = ['--last', f'{asked.picture}s', '--program', program,
                os.path.abspath(asked.session)] if asked.picture else []
-    return WatchWants(name=name_of(asked), picture=picture, kept=kept_of(asked), **{
+    return WatchWants(name=trunk_name(asked.name, asked.config), picture=picture, kept=kept_of(asked), **{
         each: getattr(asked, each) for each in (*WATCHED, 'control_mode', 'control_group', 'dark', 'on_loss')})
 
 

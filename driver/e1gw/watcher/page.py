@@ -20,9 +20,9 @@ from e1gw_common.session_clock import second_of
 from ..ctl_all import TrunkHere, TrunkLine
 from ..deaf import refused_words, why_call_deaf, words_of_call, words_of_row
 from ..events import ReadEvent
+from ..files_status import FilesStatus
 from ..metrics import NOT_OPEN, codec_word, head_of, states_of
 from ..status import CircuitStatus, TrunkStatus
-from ..trunk_files import TrunkFiles
 
 
 class Look(StrEnum):
@@ -200,7 +200,7 @@ def look_of_trunk(trunk: TrunkHere) -> Look:
 def trunk_row(trunk: TrunkHere, here: str) -> str:
     """A trunk with its circuits, a square each, and where its page is, as a reader sees it who has come to `here`;
     nothing of one that serves no page."""
-    status = trunk.status or TrunkStatus(files=TrunkFiles(http=('', 0)))
+    status = trunk.status or TrunkStatus(files=FilesStatus(http=('', 0)))
     if not status.files.http:
         return trunk_row(TrunkHere(False, TrunkLine(trunk.line.name, state='serves no page (--http)')), here)
     name, *cells, state = [escape(each) for each in trunk.line]

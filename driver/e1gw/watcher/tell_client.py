@@ -53,9 +53,9 @@ class TellClient:
                  put: Callable[[str], None]) -> None:
         self._trunk, self.report_event = trunk, tell
         self._config = read_config(trunk.config_path())
-        self.lines = TrunkState(self._config, report_failure(self._on_event, WATCH), counts, time.monotonic,
+        self.state = TrunkState(self._config, report_failure(self._on_event, WATCH), counts, time.monotonic,
                                 report_failure(self._on_all_told, WATCH))
-        self.calls = CallLog(name, self.lines.lines, counts, put, self._day)
+        self.calls = CallLog(name, self.state.lines, counts, put, self._day)
         self.is_followed: Callable[[], bool] = lambda: False
         self.start = time.monotonic()
         self.naming = CallNames(note_of(trunk.places().tell_path))
@@ -71,27 +71,27 @@ class TellClient:
         self._is_known = False                  # how the lines stand at the place up to which changes were told
         self._since = self._at = time.time()    # (the latter: when that place was told)
         self._is_caught_up = False              # all behind it was read in the log, up to the program's first report
-        self._again = self.lines                # what tells now, and up to which octet, at which time, if it is the log
+        self._again = self.state                # what tells now, and up to which octet, at which time, if it is the log
         self._until = 0, self._at
         self.waiting: Callable[[], list[str]] = list    # lines of calls that may not be written yet
-        self.lines.on_disconnect()
+        self.state.on_disconnect()
 
     def restore_note(self, note: CallsNote) -> None:
         """Goes on with the calls of the watcher before this one."""
-        self.calls.life = self.naming.known(self.lines.lines)
+        self.calls.life = self.naming.known(self.state.lines)
         self.calls.restore_note(note)
-        self.lines.place, self.lines.begun, self._at, self._is_known = note.place, note.begun, note.at, True
+        self.state.place, self.state.begun, self._at, self._is_known = note.place, note.begun, note.at, True
 
     async def _catch_up(self, last: int) -> None:
         """What happened up to this octet of the trunk, and nobody told, is read in the log, as far as that reaches."""
-        place, self._is_caught_up, self._until = self.lines.place, False, (last, time.time())
+        place, self._is_caught_up, self._until = self.state.place, False, (last, time.time())
         missed = await self._trunk.missed_reports(place)
         if not missed or missed.since > missed.last or not (self._is_known or missed.is_complete()):
             return
         if not missed.is_complete():
             logger.warning('%.1f s of the trunk are not known: their calls may have no line',
                            (missed.first - missed.since) / OCTETS_A_SECOND)
-        self._again = self.lines.replay_until(missed.first, lambda: time.monotonic() - self._lag())
+        self._again = self.state.replay_until(missed.first, lambda: time.monotonic() - self._lag())
         self.calls.set_counts(self._again.counts)
         try:
             self._replay_missed(missed)
@@ -99,10 +99,10 @@ class TellClient:
         except BadTelling as fault:
             logger.warning('what the calls did meanwhile is not known: %s', fault)
         finally:
-            self._again = self.lines
-        (self.lines.place, self._at), self._is_known, self.lines.known = self._until, True, True
-        self.calls.set_counts(self.lines.counts)
-        self.naming.note_states(self.lines.lines)
+            self._again = self.state
+        (self.state.place, self._at), self._is_known, self.state.known = self._until, True, True
+        self.calls.set_counts(self.state.counts)
+        self.naming.note_states(self.state.lines)
         self._note_calls()
 
     def _replay_missed(self, missed: MissedReports) -> None:
@@ -111,20 +111,20 @@ class TellClient:
         again.take(alarms)
         again.known, again.live = self._is_known, self._is_known and missed.is_complete() and not missed.is_new
         again.take(state)
-        again.counts.resume(self.lines.counts)
+        again.counts.resume(self.state.counts)
         if not self._is_known:
-            self.calls.life = self.naming.known(self.lines.lines)
+            self.calls.life = self.naming.known(self.state.lines)
         self.calls.on_counts_known()
         again.take(changes)
-        self.lines.counts.take_causes(again.counts)
+        self.state.counts.take_causes(again.counts)
 
     def _lag(self) -> float:
         """By how many seconds that is late which is told now. Octets behind the begin of the program of now came as
         they come up to now, those before that as they came behind what was told last, or the begin of another one."""
         place = self._again.place
-        if self._again is self.lines:
+        if self._again is self.state:
             return 0.0
-        known = [(self.lines.place, self._at), *self._trunk.program_starts()]
+        known = [(self.state.place, self._at), *self._trunk.program_starts()]
         octet, at = self._until if place > self._trunk.start_octet() else max(
             (each for each in known if each[0] < place), default=known[0])
         return max(0.0, time.time() - at - (place - octet) / OCTETS_A_SECOND)
@@ -138,8 +138,8 @@ class TellClient:
         self.report_event(event)
         if isinstance(event, LineChanged):
             self._has_changed = True
-            if self.lines.live:
-                self.naming.note_states(self.lines.lines)
+            if self.state.live:
+                self.naming.note_states(self.state.lines)
 
     def _note_calls(self) -> None:
         """Has the next service know of changes, and of the lines of calls that have ended, which are written then."""
@@ -160,9 +160,9 @@ class TellClient:
                 self._since, why = time.time(), self._trunk.facts().fault or why
                 self.report_event(Connected('program') if has else Disconnected('program', why))
 
-    def teller(self) -> object:
+    def report_connection(self) -> object:
         """The connection at which changes are told; None if there is none."""
-        return self._line if self.lines.live else None
+        return self._line if self.state.live else None
 
     def wake(self) -> None:
         """Reports are read at once."""
@@ -195,16 +195,16 @@ class TellClient:
     def on_disconnect(self) -> None:
         """The connection has ended."""
         self._line = None
-        self.lines.on_disconnect()
+        self.state.on_disconnect()
         self.calls.on_disconnect()
         self.set_connected('reports', False, f'{self._trunk.places().tell_path}: {self._why}')
 
     def read_lines(self, line: socket.socket, most: int) -> bool:
         """Takes what was told, at once, so that nothing behind it is taken before; whether more may follow."""
         try:
-            octets, before = line.recv(most), self.lines.place
-            self.lines.take(octets)
-            if self.lines.place != before:
+            octets, before = line.recv(most), self.state.place
+            self.state.take(octets)
+            if self.state.place != before:
                 self._at = time.time()
             self._note_calls()
             return bool(octets)
@@ -241,32 +241,32 @@ class TellClient:
         self._session = session
         with suppress(OSError, ValueError):
             before, self._config = self._config, read_config(self._trunk.config_path())
-            self.lines.configure(self._config)
+            self.state.configure(self._config)
             self.calls.changed = before.differing(self._config)
         await self._catch_up(place)
         self.flow, self._line = replace(self.flow, moved=time.monotonic()), line
-        self.lines.begin(self._trunk.start_octet())
+        self.state.begin(self._trunk.start_octet())
 
     def counts_told(self) -> ToldNote:
         """What this process has told beside the calls."""
-        lines, stands = self.lines, bool(self._stood if self._stands is None else self._stands)
-        return ToldNote(stands, self._since, (*lines.alarms.values(), *lines.remote.values()),
-                        (*lines.losses.values(),), self.flow)
+        state, stands = self.state, bool(self._stood if self._stands is None else self._stands)
+        return ToldNote(stands, self._since, (*state.alarms.values(), *state.remote.values()),
+                        (*state.losses.values(),), self.flow)
 
     def restore_told(self, note: ToldNote) -> None:
         """That is not told again."""
         self._stood, self._since, self.flow = note.stands, note.since, note.flow
-        for its, told in zip((self.lines.alarms, self.lines.remote), (note.alarms[:2], note.alarms[2:])):
+        for its, told in zip((self.state.alarms, self.state.remote), (note.alarms[:2], note.alarms[2:])):
             its.update(zip(Alignment, told))
-        self.lines.losses.update(zip(Alignment, note.losses))
+        self.state.losses.update(zip(Alignment, note.losses))
 
     def calls_note(self) -> CallsNote | None:
         """What another service has to know of the calls."""
-        return self.calls.note(self.lines.place, self.lines.begun, self._at, self.waiting()) if self._is_known else None
+        return self.calls.note(self.state.place, self.state.begun, self._at, self.waiting()) if self._is_known else None
 
     def _on_all_told(self) -> None:
         self._is_known = self._has_changed = True
-        self.naming.begin(self._session, self.lines.seizures, self.lines.lines, self._is_caught_up)
+        self.naming.begin(self._session, self.state.seizures, self.state.lines, self._is_caught_up)
         self.set_connected('reports', True)
         self.calls.on_session_start(self.naming.life)
 
@@ -282,14 +282,14 @@ class TellClient:
 
     def place(self) -> int:
         """Octets of the trunk up to now. (Its log may have ended, and it goes on.)"""
-        return max(self._trunk.place(), self.lines.place)
+        return max(self._trunk.place(), self.state.place)
 
     def outage(self) -> str | None:
         """Why no seizure can reach the other end, or None."""
-        return 'the trunk is stalled' if self.flow.is_stalled else self._trunk.outage() or self.lines.outage()
+        return 'the trunk is stalled' if self.flow.is_stalled else self._trunk.outage() or self.state.outage()
 
     def told_status(self) -> ToldStatus:
         """What is known of the trunk by what was told."""
         stands = bool(self._stands)
-        return replace(self.lines.status(), octets=self.place(), life=self.naming.life or None, trunk_up=stands,
+        return replace(self.state.status(), octets=self.place(), life=self.naming.life or None, trunk_up=stands,
                        program=stands, program_since=round(self._since, 3))

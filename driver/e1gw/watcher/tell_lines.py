@@ -28,7 +28,7 @@ class TrunkState:
                  clock: Callable[[], float] = time.monotonic, began: Callable[[], None] = lambda: None) -> None:
         self.law, self.lines, self.report_event = config.law, config.lines(), tell
         self.counts, self.began, self._clock = counts, began, clock
-        self.commanded: Callable[[bytes], None] = lambda record: None   # called with each C and K record that was given
+        self.on_command_told: Callable[[bytes], None] = lambda record: None     # a C or K record was given
         self.place = 0                      # octets of the trunk so far
         self.losses = {each: 0 for each in Alignment}
         self.alarms = {each: False for each in Alignment}       # that the gateway sends
@@ -153,10 +153,10 @@ class TrunkState:
         if int(code) == 0:
             line.count_command(given)
             self._led[line.circuit] = LEADS[given]
-        self.commanded(command_record(line.circuit, given))
+        self.on_command_told(command_record(line.circuit, given))
 
     def _change(self, circuit: str, codec: str, payload_type: str, _: str) -> None:
-        self.commanded(codec_record(int(circuit), Codec(int(codec)), int(payload_type)))
+        self.on_command_told(codec_record(int(circuit), Codec(int(codec)), int(payload_type)))
 
     def _row(self, circuit: str, role: str, state: str, sent: str, recognised: str, *counts: str) -> None:
         """The row of a circuit in the listing."""

@@ -28,9 +28,9 @@ from ..counts import DatagramCounts
 from ..deaf import DeafCalls
 from ..events import (LAST, Burst, CallsCleared, CommandGiven, Event, LineChanged, RateChanged, ReadEvent, ReadEvents,
                       Slip, WatchEnded, WrongRate)
+from ..files_status import FilesStatus
 from ..resyncs import Resyncs
 from ..status import TrunkStatus
-from ..trunk_files import TrunkFiles
 from .commands import MOST_LINE, CommandServer
 from .connection import NoAnswer, ProgramConnection
 from .blocks import BlockWatch
@@ -68,10 +68,10 @@ class WatchWants:
     picture: list[str] = field(default_factory=list)
     kept: str | None = None
 
-    def files(self) -> TrunkFiles:
+    def files(self) -> FilesStatus:
         calls, events, session = (path and os.path.abspath(path) for path in (
             self.calls, None if self.json == '-' else self.json, self.session))
-        return TrunkFiles(os.path.abspath(self.config), calls, events, session, self.http)
+        return FilesStatus(os.path.abspath(self.config), calls, events, session, self.http)
 
 
 @dataclass(frozen=True)
@@ -99,17 +99,17 @@ class TrunkWatch:
         self.counts = DatagramCounts(report_failure(self._restarts.count_answers, WATCH))
         self._deaf = DeafCalls(self.report_event)
         self.client = TellClient(trunk, wants.name, self.report_event, self.counts, self._put_call)
-        self._lines = self.client.lines
+        self._state = self.client.state
         self._program = ProgramConnection(lambda: trunk.places().control, self.client.set_connected, self.client.wake,
                                           lambda: trunk.facts().fault)
-        self._lines.commanded = report_failure(self._program.on_record, WATCH)
+        self._state.on_command_told = report_failure(self._program.on_command_told, WATCH)
         self._events, self._ended_calls = ReadEvents(), deque[str](maxlen=LAST)
-        self.pages = TrunkPages(self.known_status, self.client.take_now, list(self._lines.lines.values()),
+        self.pages = TrunkPages(self.known_status, self.client.take_now, list(self._state.lines.values()),
                                 PageNotes(self._events.last, self._ended_calls, wants.kept))
         self._server = CommandServer(self)
-        self.blocks = BlockWatch(trunk.blocks(), self._lines, self.give_command, self.report_event)
-        self._reloads = IdleReloadWatch(trunk, self._lines)
-        self.codecs = CodecWatch(self._lines, self.give_codec, lambda n: self.blocks.is_busy(n)
+        self.blocks = BlockWatch(trunk.blocks(), self._state, self.give_command, self.report_event)
+        self._reloads = IdleReloadWatch(trunk, self._state)
+        self.codecs = CodecWatch(self._state, self.give_codec, lambda n: self.blocks.is_busy(n)
                                  or n in self._reloads.waiting(), lambda: self.client.changed())
         self.client.is_followed = lambda: bool(self._server.followers() or self.blocks.kept.now.not_yet_blocked())
         self.client.waiting = lambda: [*islice(self._calls.waiting, NOTED)] if self._calls else []
@@ -128,8 +128,8 @@ class TrunkWatch:
         """Has the program do a command of a circuit."""
         try:
             with self.blocks.under_way(circuit):
-                refusal = (await self._program.ask(record, self.client.teller)).refusal
-            answer = refused_by(refusal, circuit, self._lines.lines[circuit].role) if refusal else DONE
+                refusal = (await self._program.ask(record, self.client.report_connection)).refusal
+            answer = refused_by(refusal, circuit, self._state.lines[circuit].role) if refusal else DONE
         except NoAnswer as fault:
             answer = CommandAnswer(AnswerWord.UNKNOWN if fault.is_given else AnswerWord.REFUSED, str(fault))
         self.count(circuit, words, answer.short)
@@ -142,7 +142,7 @@ class TrunkWatch:
         return await self.command(self._codec_record(circuit, codec, payload), circuit, f'codec {codec} {payload} auto')
 
     def _codec_record(self, circuit: int, codec: str, payload: int) -> bytes:
-        return codec_record(circuit, next(each for each in Codec if each.word(self._lines.law) == codec), payload)
+        return codec_record(circuit, next(each for each in Codec if each.word(self._state.law) == codec), payload)
 
     def count(self, circuit: int, words: str, text: str) -> None:
         self._done[words.split()[0], text] += 1
@@ -152,7 +152,7 @@ class TrunkWatch:
         """Ends all calls that this end can end: clear at the outgoing end, clear-back at the incoming one. `blocks`
         blocks idle circuits at the incoming end, too."""
         cleared = []
-        for n, line in self._lines.lines.items():
+        for n, line in self._state.lines.items():
             command = line.ending()
             if blocks and line.role is Role.INCOMING and line.state is State.IDLE:
                 command = Command.BLOCK
@@ -165,7 +165,7 @@ class TrunkWatch:
     def restart(self, circuits: list[int]) -> None:
         """Gives open circuits the codec that they have, which restarts their playout."""
         for n in circuits:
-            line = self._lines.lines[n]
+            line = self._state.lines[n]
             self._tasks.begin(self._renew(self._codec_record(n, line.codec, line.payload)))
         self._resyncs += len(circuits)
 
@@ -245,7 +245,7 @@ class TrunkWatch:
         seconds, since = round(finding.value, 3), finding.since
         since = since and round(time.time() - time.monotonic() + since, 3)
         self.report_event(Slip(seconds, since) if finding.what == 'gap' else Burst(seconds))
-        self._restarts.request(self._lines.open_circuits(), f'{finding.what} of {seconds} s')
+        self._restarts.request(self._state.open_circuits(), f'{finding.what} of {seconds} s')
 
     def _note(self, what: str, why: str | None) -> None:
         """From any thread: something other than the calls has ended, or goes on."""
@@ -269,7 +269,7 @@ class TrunkWatch:
             crc4=facts.crc4, clock=client.flow.status(self.trunk.flow()), calls=(*client.calls.open_calls(),),
             alarms=(*self._events.active_alarms().values(),),
             circuits=tuple(replace(row, blocked=blocks.word(n), deaf=self._deaf.causes.get(n))
-                           for n, row in zip(CIRCUITS, self._lines.rows())),
+                           for n, row in zip(CIRCUITS, self._state.rows())),
             waiting=facts.waiting, ended=self.ended | {'session': facts.session}, stale=self.counts.stale(),
             renewed=self._resyncs, log_losses=facts.log_losses,
             commands=tuple(CommandCount(*words, count) for words, count in sorted(self._done.items())))
@@ -311,10 +311,10 @@ class TrunkWatch:
         if self.wants.control and not os.path.lexists(self.wants.control):
             self._tasks.begin(self._reopen_listener(self.wants.control))
         self.client.look_at_flow(now)
-        if self._lines.live:
-            self._deaf.update_hearings(self._lines.place, self.counts.listen_to({
-                n: line.codec for n, line in self._lines.lines.items() if line.state is State.ANSWERED}))
-        self._restarts.restart_due(now, self._lines.place, self._lines.open_circuits(), not self.counts.stale())
+        if self._state.live:
+            self._deaf.update_hearings(self._state.place, self.counts.listen_to({
+                n: line.codec for n, line in self._state.lines.items() if line.state is State.ANSWERED}))
+        self._restarts.restart_due(now, self._state.place, self._state.open_circuits(), not self.counts.stale())
         self.disconnects.clear_due(now)
         self.blocks.block_due()
         self.codecs.restore_codecs()

@@ -1,11 +1,11 @@
-"""The files of a trunk: a part of its status that is read without the rest."""
+"""What a status has of the files of a trunk. e1gw-ctl reads it without the rest, whose import takes longer."""
 from __future__ import annotations
 
 from dataclasses import dataclass
 
 
 @dataclass(frozen=True)
-class TrunkFiles:
+class FilesStatus:
     """Where a trunk is configured, kept and shown."""
 
     config_file: str = ''
