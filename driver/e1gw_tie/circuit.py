@@ -2,7 +2,8 @@
 
 At one end the circuit is incoming, and its exchange seizes it; at the other end it is outgoing, and the gateway seizes
 it for each call. Commands follow from states and never from a message, so a lost message is made up for by the next
-one. There is no clock here and nothing is sent: `wants` is a function of a value.
+one. There is no clock here and nothing is sent: `next_command` follows from the circuit's value, the state of the link
+and --congestion alone.
 
 The incoming end names each call. The outgoing end keeps the name of the last call passed on to it; so both know whether
 the state there belongs to this call, to an earlier one or to none."""

@@ -47,7 +47,8 @@ class ImportTests(unittest.TestCase):
         self.assertEqual([name for name in loaded if name.startswith('e1gw.watcher')], [])
         for path in glob.glob(f'{support.TOP}/driver/e1gw/holder/*.py'):
             self.assertNotRegex(support.text_of(path), r'(from|import) [\w.]*\bwatcher\b')
-        self.assertEqual(loaded & {'argparse', 'asyncio', 'logging', 'tomllib', 'subprocess', 'ipaddress'}, set())
+        slow = {'argparse', 'asyncio', 'dataclasses', 'logging', 'tomllib', 'subprocess', 'ipaddress'}
+        self.assertEqual(loaded & slow, set())
 
 
 class StoreTests(FolderCase):

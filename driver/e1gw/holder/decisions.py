@@ -1,6 +1,7 @@
 """What a holder does next: pure functions of what is known, without a clock, a file or a process.
 
-What a holder imports is a part of the silence behind its death: hence NamedTuples, not dataclasses."""
+After a holder dies nobody answers the trunk until the next one has imported its modules: so none of this folder imports
+dataclasses, which is slow."""
 from __future__ import annotations
 
 from enum import Enum

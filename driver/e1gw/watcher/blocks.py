@@ -148,7 +148,7 @@ class BlockWatch:
             self._report(news)
 
     async def _block(self, n: int) -> None:
-        """BlockedCircuits a circuit, which is busy since that was decided."""
+        """Blocks a circuit, which has counted as busy since that was decided."""
         is_done = False
         try:
             is_done = (await self._give(n, Command.BLOCK)).is_done

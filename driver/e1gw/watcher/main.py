@@ -100,8 +100,6 @@ class Watcher:
             self._restore_note(note)
         reader.restore_note(note.read if note else ReadingNote(), note.recording if note else None)
         watch.client.changed = self.note
-        reader.found, reader.told = watch.on_clock_finding, lambda: watch.client.state.place
-        reader.took, reader.missed = watch.counts.take_records, watch.counts.skip
         if pair := open_pair(asked, trunk, watch.report_event):
             trunk.set_pair(pair)
         return True

@@ -141,7 +141,8 @@ class TrunkState:
             alarms[what] = on
             self.report_event(kind(what, on, self.place))
 
-    def _counts(self, circuit: str, accepted: str, _: str, jitter: str, *refused: str) -> None:
+    def _counts(self, circuit: str, accepted: str, _lost: str, jitter: str, *refused: str) -> None:
+        # (Lost packets are those that counts.py counts, from the log.)
         told = ToldCounts(int(accepted), int(jitter), tuple(map(int, refused)))
         if self.live:
             self.counts.count(int(circuit), told, self.place)

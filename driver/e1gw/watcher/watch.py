@@ -100,6 +100,8 @@ class TrunkWatch:
         self._deaf = DeafCalls(self.report_event)
         self.client = TellClient(trunk, wants.name, self.report_event, self.counts, self._put_call)
         self._state = self.client.state
+        trunk.reader.found, trunk.reader.told = self.on_clock_finding, lambda: self._state.place
+        trunk.reader.took, trunk.reader.missed = self.counts.take_records, self.counts.skip
         self._program = ProgramConnection(lambda: trunk.places().control, self.client.set_connected, self.client.wake,
                                           lambda: trunk.facts().fault)
         self._state.on_command_told = report_failure(self._program.on_command_told, WATCH)
