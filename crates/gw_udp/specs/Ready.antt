@@ -2,7 +2,7 @@
 use Rattle.std.specs.Prelude.{◌≡◌, ◌≢◌, ◌⊎◌, ◌+◌, ◌-◌, ◌<◌, ℕ, Bool, true, false}
 use Rattle.std.specs.Prelude.{Option, None, Result, Ok}
 use Rattle.gw_records.specs.declared.ports.PortFault.{PortFault}
-use Rattle.gw_udp.specs.Resting.{AsksSystem, rests_after, rests_of}
+use Rattle.gw_udp.specs.Resting.{AsksSystem, rests_of}
 use Rattle.gw_udp.specs.declared.readiness.Readiness.{Readiness}
 
 -- A receive was counted: in the 250th since the system was last asked, it was asked what came.
@@ -21,7 +21,8 @@ pub record IsTurn (r r' : Readiness) (circuit : ℕ) (rests : Bool) : Type 0 whe
   pub rested : rests ≡ true → rests_of r'.rests (circuit - 1) + 1 ≡ rests_of looked.rests (circuit - 1)
 
 -- A receive of a circuit was counted. If none rests there, it asks at the socket, unless that has given enough.
-pub record TakesTurn (r r' : Readiness) (circuit : ℕ) (enough asks : Type 0)
+-- Receives rest behind one that found none there.
+pub record TakesTurn (r r' : Readiness) (circuit : ℕ) (enough asks none : Type 0)
     (answer : Result (Option ℕ) PortFault) : Type 0 where
   pub looked : Readiness
   pub counted : IsCounted r looked
@@ -32,4 +33,5 @@ pub record TakesTurn (r r' : Readiness) (circuit : ℕ) (enough asks : Type 0)
       → (answer ≡ Ok None) × (rests_of r'.rests (circuit - 1) + 1 ≡ rests_of looked.rests (circuit - 1))
   pub waits : rests_of looked.rests (circuit - 1) ≡ 0 → enough → r'.rests ≡ looked.rests
   pub asked : rests_of looked.rests (circuit - 1) ≡ 0 → ¬ enough
-      → asks × (rests_of r'.rests (circuit - 1) ≡ rests_after (rests_of r.most (circuit - 1)) answer)
+      → asks × ((rests_of r'.rests (circuit - 1) ≡ 0)
+      ⊎ ((rests_of r'.rests (circuit - 1) ≡ rests_of r.most (circuit - 1)) × none))

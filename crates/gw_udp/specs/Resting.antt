@@ -1,10 +1,8 @@
 -- How many receives of circuits find none without asking the system.
 use Rattle.std.specs.Prelude.{◌≡◌, ◌==◌, ◌<◌, ℕ, List, slice_index_or, if◌then◌else◌, Bool}
-use Rattle.std.specs.Prelude.{Option, Some, None, Result, Ok, Err}
 use Rattle.std.specs.List.{list_any}
 use Rattle.mio.specs.Event.{event_token}
 use Rattle.mio.specs.declared.event.event.Event.{Event}
-use Rattle.gw_records.specs.declared.ports.PortFault.{PortFault}
 
 -- events have one of this token
 abbrev pub comes : ℕ → List Event → Bool
@@ -22,10 +20,3 @@ AreNoted events rests rests' = (k : ℕ) → k < 30
 -- The system was asked what came to sockets, and this is noted.
 abbrev pub AsksSystem : List ℕ → List ℕ → Type 0
 AsksSystem rests rests' = (events : List Event) × AreNoted events rests rests'
-
--- How many receives rest after one that asked: `most` after one that found none, and no receive after a datagram
--- or a fault.
-abbrev pub rests_after : ℕ → Result (Option ℕ) PortFault → ℕ
-rests_after most (Ok None) = most
-rests_after most (Ok (Some x)) = 0
-rests_after most (Err e) = 0

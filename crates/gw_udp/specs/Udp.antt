@@ -90,6 +90,18 @@ abbrev pub EndpointReceives : {S : Type 0} → Received S → Option SocketAddr 
 EndpointReceives {S} receives first c old new r room = (d : Option (Endpoint S))
     → ReceivesAt receives first (slice_index_or old (c - 1) d) (slice_index_or new (c - 1) d) r room
 
+-- the socket of one circuit had none, if there is a socket
+abbrev pub FindsNone : {S : Type 0} → Received S → Option (Endpoint S) → Option (Endpoint S) → List ℕ → Type 0
+FindsNone receives None new room = ⊤
+FindsNone receives (Some e) None room = ⊥
+FindsNone receives (Some e) (Some f) room = receives e.socket f.socket (Ok None) room
+
+-- .. that of circuit c
+abbrev pub EndpointFindsNone : {S : Type 0} → Received S → ℕ → List (Option (Endpoint S))
+    → List (Option (Endpoint S)) → List ℕ → Type 0
+EndpointFindsNone {S} receives c old new room = (d : Option (Endpoint S))
+    → FindsNone receives (slice_index_or old (c - 1) d) (slice_index_or new (c - 1) d) room
+
 -- the send of one circuit: it went to the circuit's peer, or nowhere without a socket
 abbrev pub SendsAt : {S : Type 0} → Sent S → Option (Endpoint S) → Option (Endpoint S) → List ℕ
     → Result (Unit {0}) PortFault → Type 0

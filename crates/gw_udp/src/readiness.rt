@@ -2,11 +2,10 @@
 
 ghost use Rattle.std.specs.Prelude.{◌≡◌, ◌==◌, ◌-◌, ◌<◌, ◌≤◌, ℕ, slice_set, if◌then◌else◌};
 ghost use Rattle.mio.specs.Events.{items};
-ghost use Rattle.gw_udp.specs.Resting.{AreNoted, AsksSystem, rests_after, rests_of};
+ghost use Rattle.gw_udp.specs.Resting.{AreNoted, AsksSystem, rests_of};
 
 use crate::socket::Socket;
 use g704_cas::CircuitNo;
-use gw_records::PortFault;
 use mio::{Events, Poll, Token};
 use std::alloc::Global;
 use std::io;
@@ -36,7 +35,7 @@ struct Poller {
 /// After a receive that found none, the next seven rest: they find none by themselves. If the system says what
 /// comes to the socket, the next 799 do, which is 100 ms, unless something comes. A datagram that comes meanwhile
 /// stays in the socket, and is received up to seven octets of its circuit later, 0.9 ms. No receive rests after
-/// one that gave a datagram, so those that wait are received one after the other. The system is asked what came
+/// one that gave a datagram or a stranger's, so those that wait are received one after the other. The system is asked what came
 /// before each trunk record and once in 250 receives, of all circuits together.
 #[derive(Drop)]
 pub(crate) struct Readiness {
@@ -87,17 +86,6 @@ fn ask_system(poller: &mut Option<Poller>, rests: &mut [u16; 30])
     };
     let _ = poller.poll.poll(&mut poller.events, Some(Duration::ZERO));
     note_all(&poller.events, rests);
-}
-
-// How many receives rest after one that asked: `most` if it found none, else none.
-#[inline]
-fn rests_after(most: u16, answer: &Result<Option<usize>, PortFault>) -> u16
-    ensures { result ≡ rests_after most answer.now }
-{
-    match answer {
-        Ok(None) => most,
-        _ => 0,
-    }
 }
 
 impl Readiness {
@@ -163,18 +151,14 @@ impl Readiness {
         true
     }
 
-    /// Has receives of a circuit rest after one that asked, by its answer.
-    pub(crate) fn rest_after(
-        &mut self,
-        circuit: CircuitNo,
-        answer: &Result<Option<usize>, PortFault>,
-    )
+    /// Has receives of a circuit rest after one that asked, if it found none at the socket.
+    pub(crate) fn rest_after(&mut self, circuit: CircuitNo, none_there: bool)
         ensures rests { self.new.rests ≡ slice_set self.old.rests (circuit - 1)
-            (rests_after (rests_of self.old.most (circuit - 1)) answer.now) }
+            (if none_there then rests_of self.old.most (circuit - 1) else 0) }
         ensures most { self.new.most ≡ self.old.most }
         ensures receives { self.new.receives ≡ self.old.receives }
     {
         let at = usize::from(circuit.get()) - 1;
-        self.rests[at] = rests_after(self.most[at], answer);
+        self.rests[at] = if none_there { self.most[at] } else { 0 };
     }
 }

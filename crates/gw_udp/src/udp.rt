@@ -11,10 +11,10 @@ ghost use Rattle.gw_udp.specs.First.{EndpointSender, IsSenderOf, first_of, known
 ghost use Rattle.gw_udp.specs.Given.{GivesFew, HasGivenEnough, given_after};
 ghost use Rattle.gw_udp.specs.Opening.{Blames, BlamesPorts, IsAddressOf, IsFaultOf};
 ghost use Rattle.gw_udp.specs.Ready.{TakesTurn};
-ghost use Rattle.gw_udp.specs.Resting.{rests_after, rests_of};
+ghost use Rattle.gw_udp.specs.Resting.{rests_of};
 ghost use Rattle.gw_udp.specs.SourceFilter.{IsAccepted};
 ghost use Rattle.gw_udp.specs.Udp.{IsEndpointOf, IsEndpoint, HasEndpoints, KeepsOthers};
-ghost use Rattle.gw_udp.specs.Udp.{ReceivesFrom, EndpointReceives, EndpointSends};
+ghost use Rattle.gw_udp.specs.Udp.{ReceivesFrom, EndpointFindsNone, EndpointReceives, EndpointSends};
 
 use crate::first_senders::FirstSenders;
 use crate::given::GivenOctets;
@@ -197,12 +197,13 @@ fn receive_accepted<S: Socket>(
         result room.new }
     ensures sender { IfOk result (λ got. IfSome got (λ len. IsSenderOf S.receives socket.new room.new len
         came.new)) }
+    ensures none { result ≡ Ok None → came.new ≡ None → S.receives socket.old socket.new (Ok None) room.new }
 {
     for _turn in 0..MOST_STRANGERS {
         match socket.receive(room)? {
             Some((len, from)) => {
+                *came = Some(from);
                 if senders.accepts(from, *peer, first) {
-                    *came = Some(from);
                     return Ok(Some(len));
                 }
             }
@@ -227,6 +228,7 @@ fn receive_from<S: Socket>(
         result room.new }
     ensures sender { senders ≢ SourceFilter.Any → IfOk result (λ got. IfSome got (λ len.
         IsSenderOf S.receives socket.new room.new len came.new)) }
+    ensures none { result ≡ Ok None → came.new ≡ None → S.receives socket.old socket.new (Ok None) room.new }
 {
     match senders {
         SourceFilter::Any => socket.receive_any(room),
@@ -236,7 +238,8 @@ fn receive_from<S: Socket>(
     }
 }
 
-// Receives at a circuit's socket, by a call of the system.
+// Receives at a circuit's socket, by a call of the system. It found none there if it answers so and no sender
+// came.
 fn ask_at<S: Socket>(
     endpoints: &mut [Option<Endpoint<S>>],
     firsts: &mut FirstSenders,
@@ -249,9 +252,12 @@ fn ask_at<S: Socket>(
         endpoints.new result room.new }
     ensures sender { IfOk result (λ got. IfSome got (λ len. EndpointSender S.receives circuit endpoints.new
         room.new len firsts.new.came)) }
+    ensures none { result ≡ Ok None → firsts.new.came ≡ None
+        → EndpointFindsNone S.receives circuit endpoints.old endpoints.new room.new }
     ensures known { firsts.new.known ≡ firsts.old.known }
     ensures others { KeepsOthers circuit endpoints.old endpoints.new }
 {
+    firsts.came = None;
     let first = firsts.of(circuit);
     let at = usize::from(circuit.get()) - 1;
     match &mut endpoints[at] {
@@ -286,8 +292,9 @@ fn ask_more<S: Socket>(
         endpoints.new result room.new ⊎ ((result ≡ Ok None) × (endpoints.new ≡ endpoints.old)) }
     ensures asks { ¬ HasGivenEnough given.now circuit → EndpointReceives S.receives
         (first_of firsts.old circuit) circuit endpoints.old endpoints.new result room.new }
-    ensures rests { ¬ HasGivenEnough given.now circuit → rests_of readiness.new.rests (circuit - 1)
-        ≡ rests_after (rests_of readiness.old.most (circuit - 1)) result }
+    ensures rests { ¬ HasGivenEnough given.now circuit → (rests_of readiness.new.rests (circuit - 1) ≡ 0)
+        ⊎ ((rests_of readiness.new.rests (circuit - 1) ≡ rests_of readiness.old.most (circuit - 1))
+        × EndpointFindsNone S.receives circuit endpoints.old endpoints.new room.new) }
     ensures others_rest { (k : ℕ) → k ≢ circuit - 1
         → rests_of readiness.new.rests k ≡ rests_of readiness.old.rests k }
     ensures most { readiness.new.most ≡ readiness.old.most }
@@ -301,7 +308,8 @@ fn ask_more<S: Socket>(
         return Ok(None);
     }
     let answer = ask_at(endpoints, firsts, circuit, room);
-    readiness.rest_after(circuit, &answer);
+    let none_there = matches!(answer, Ok(None)) && firsts.came.is_none();
+    readiness.rest_after(circuit, none_there);
     answer
 }
 
@@ -324,7 +332,7 @@ fn receive_more<S: Socket>(
         endpoints.new result room.new ⊎ ((result ≡ Ok None) × (endpoints.new ≡ endpoints.old)) }
     ensures turn { TakesTurn readiness.old readiness.new circuit (HasGivenEnough given.now circuit)
         (EndpointReceives S.receives (first_of firsts.old circuit) circuit endpoints.old endpoints.new result
-        room.new) result }
+        room.new) (EndpointFindsNone S.receives circuit endpoints.old endpoints.new room.new) result }
     ensures sender { IfOk result (λ got. IfSome got (λ len. EndpointSender S.receives circuit endpoints.new
         room.new len firsts.new.came)) }
     ensures known { firsts.new.known ≡ firsts.old.known }
@@ -481,7 +489,8 @@ impl<S: Socket> Ports for UdpPorts<S> {
         ensures turn { TakesTurn self.old.readiness self.new.readiness circuit
             (HasGivenEnough self.old.given circuit) (EndpointReceives S.receives
             (first_of self.old.firsts circuit) circuit self.old.endpoints.items self.new.endpoints.items
-            result room.new) result }
+            result room.new) (EndpointFindsNone S.receives circuit self.old.endpoints.items
+            self.new.endpoints.items room.new) result }
         ensures sender { IfOk result (λ got. IfSome got (λ len. EndpointSender S.receives circuit
             self.new.endpoints.items room.new len self.new.firsts.came)) }
         ensures known { self.new.firsts.known ≡ self.old.firsts.known }
