@@ -1,4 +1,5 @@
-"""Which calls hear nothing: no packet was accepted in them for a while, though they are answered; and the cause."""
+"""Which calls hear nothing: no packet was accepted in them for a while, though they are answered; and the cause. And
+the words of what else is wrong with a circuit."""
 from __future__ import annotations
 
 from dataclasses import dataclass, replace
@@ -6,7 +7,7 @@ from operator import itemgetter, sub
 from typing import Iterable, Mapping
 
 from e1gw_common.call_lines import CallLine
-from e1gw_common.lines import circuit_words
+from e1gw_common.lines import PAIRS, State, circuit_words
 from e1gw_common.session import OCTETS_A_SECOND, DatagramRefusal
 from e1gw_common.session_clock import second_of
 from .counts import REASONS, ToldCounts
@@ -16,6 +17,7 @@ from .status import CircuitStatus
 
 DEAF_AFTER = 2 * OCTETS_A_SECOND        # octets of the trunk
 HEARS_NOTHING, NO_PACKETS = 'hears nothing', 'no packets'
+AGAINST = 'signals against Q.421'
 
 
 def why_deaf(octets: int, cause: str) -> str:
@@ -86,14 +88,17 @@ class DeafCalls:
 
 
 def words_of_row(row: CircuitStatus) -> str:
-    """That a circuit of a status hears nothing, or sounds wrong; nothing if neither, or if that is not known."""
+    """That a circuit of a status is in fault, hears nothing, or sounds wrong; nothing if none of these, or if that is
+    not known, as in an alarm."""
+    if row.line.state is State.FAULT and row.line.recognised != PAIRS[None]:
+        return f'{AGAINST}: receives {row.line.recognised}'
     if row.deaf:
         return f'{HEARS_NOTHING}: {row.deaf}'
     return f'{SOUNDS_WRONG}: {row.packets.speech}' if row.packets.speech else ''
 
 
 def words_of_rows(rows: Iterable[CircuitStatus]) -> str:
-    """Which circuits of a status hear nothing, or sound wrong, by the cause."""
+    """Which circuits of a status are in fault, hear nothing, or sound wrong, by the cause."""
     circuits = dict[str, dict[str, list[int]]]()
     for row in rows:
         what, _, why = words_of_row(row).partition(': ')
