@@ -142,18 +142,20 @@ def state_of(status: TrunkStatus) -> str:
 
 
 class HeadLine(NamedTuple):
-    """A line above the circuits, and whether it tells of a fault."""
+    """A line above the circuits, and whether it tells of a fault, or of calls that miss packets."""
 
     text: str
     is_bad: bool = False
+    is_poor: bool = False
 
 
 def head_of(status: TrunkStatus) -> list[HeadLine]:
     """The lines above the circuits."""
     lines = _trunk_lines(status) + _pair_line(status) + _card_line(status) + _satop_line(status) + _crc4_line(status)
-    lines += [HeadLine(words, is_bad) for words, is_bad in (
-        (deaf.words_of_rows(status.circuits), True), (block_words(status.circuits), False),
-        (codec_line(status.circuits), False)) if words]
+    lines += [line for line in (
+        HeadLine(deaf.words_of_rows(status.circuits), is_bad=True),
+        HeadLine(deaf.words_of_missing(status), is_poor=True), HeadLine(block_words(status.circuits)),
+        HeadLine(codec_line(status.circuits))) if line.text]
     if status.waiting:
         lines.append(HeadLine(f'change to what is configured when their calls end: {circuit_words(status.waiting)}'))
     if status.senders == 'any':

@@ -32,7 +32,7 @@ from e1gw.status import CircuitStatus, MachineRole, PairStatus, ToldStatus, Tran
 from e1gw.watcher import http_pages
 from e1gw.watcher.options import kept_of
 from e1gw.watcher.page import (POLICY, Look, Parts, ShownRow, circuit_row, ended_row, length, message_of, page_of,
-                               trunk_row, trunks_page)
+                               parts_of, trunk_row, trunks_page)
 from e1gw.watcher.http_pages import EventReaders
 from e1gw_common.web import NOTHING, PageRequest
 from e1gw_testing.ports import free_port
@@ -91,7 +91,19 @@ class PageTextTests(unittest.TestCase):
             row = CircuitStatus(line=LineStatus(7, Role.OUTGOING, State.ACKED, for_=1.0))
             rows = ended_row(csv_line(call), None), circuit_row(replace(WELL, calls=(call,)), row)
             self.assertEqual([each.look for each in rows], [look, look], call)
+            above = parts_of(replace(WELL, calls=(call,)), mock.Mock(events=(), ended=()))['state'][3:]
+            self.assertEqual([each.look for each in above], [look] * bool(look), call)
         self.assertEqual(rows[1].cells[5:], ['5', '0.0', ''])
+
+    def test_words_of_poor_calls(self) -> None:
+        """By how many packets, and why; not those of which more is known."""
+        calls = [CallLine(*[''] * len(CallLine._fields))._replace(
+            circuit=str(n), received='95', lost=lost, discarded=discarded, cause='Late')
+            for n, lost, discarded in ((1, '5', '0'), (2, '0', '5'), (3, '5', ''), (4, '0', '0'), (7, '5', '0'))]
+        status = replace(WELL, calls=(*calls,), circuits=(CircuitStatus(line=LineStatus(7), deaf='Late'),))
+        words = 'calls miss packets: 1, 3 (5 % lost), 2 (5 % Late)'
+        self.assertEqual([*head_of(status)][-1].text, words)
+        self.assertTrue(TrunkLine.from_status('a', status).state.endswith(f'; {words}'))
 
     def test_red_lines(self) -> None:
         """Those above the circuits, of what is wrong with the trunk now."""
