@@ -45,9 +45,10 @@ def table(caption: str, heads: Iterable[str], rows: Sequence[tuple[object, ...]]
 
 
 def is_quiet(row: Row, whole: Cell) -> bool:
-    """Only idle, or a line that never left its first state."""
+    """Only idle, or a line that never left its first state, which is not known to be in fault."""
     states = [state for _, state in row.states.items]
-    return whole.is_empty() and not row.commands and states in (['fault'], ['fault', 'idle'], ['idle'])
+    is_still = whole.is_empty() and not row.commands and not row.fault
+    return is_still and states in (['fault'], ['fault', 'idle'], ['idle'])
 
 
 def describe_levels(heard: Mapping[str, HeardSamples], way: str) -> str:
