@@ -20,6 +20,7 @@ from .support import SECONDS
 from .test_trunk import FOUR, aligned, call
 from .world import World, config_of
 from e1gw_common.call_lines import CallLine, csv_line
+from e1gw.clock import ClockStatus
 from e1gw.ctl_all import TrunkHere, TrunkLine
 from e1gw.events import (AlarmChanged, BlockNews, CardAlarm, CardAlarmChanged, Connected, Crc4Change, Crc4Changed,
                          Disconnected, Event, Fed, Flows, LineChanged, NotFed, ReadEvents, RemoteAlarmChanged, Slip,
@@ -119,6 +120,18 @@ class PageTextTests(unittest.TestCase):
         for more, red in rows:
             lines = head_of(replace(WELL, **more))
             self.assertEqual([at for at, line in enumerate(lines) if line.is_bad], red, more)
+
+    def test_what_may_be_the_cause(self) -> None:
+        """Whose packets are received is told where none come to a call; a rate of steady flow is not told beside one
+        that is wrong."""
+        for deaf, senders, is_told in ((None, 'peer', False), ('no packets', 'peer', True), ('no packets', '', False),
+                                       ('Late', 'peer', False), (None, 'any', True)):
+            rows = CircuitStatus(line=LineStatus(7), deaf=deaf),
+            words = [line.text for line in head_of(replace(WELL, senders=senders, circuits=rows))]
+            self.assertEqual(f'(--senders {senders})' in words[-1], is_told, (deaf, senders))
+        for is_wrong in False, True:
+            text = head_of(replace(WELL, clock=ClockStatus(ppm=5.0, rate=0.99, rate_wrong=is_wrong)))[2].text
+            self.assertEqual('rate +5 ppm' in text, not is_wrong)
 
     def test_how_long(self) -> None:
         self.assertEqual([length(seconds) for seconds in (-1, 65.9, 3605)], ['0:00', '1:05', '1:00:05'])
