@@ -94,7 +94,7 @@ class PageTextTests(unittest.TestCase):
             self.assertEqual([each.look for each in rows], [look, look], call)
             above = parts_of(replace(WELL, calls=(call,)), mock.Mock(events=(), ended=()))['state'][3:]
             self.assertEqual([each.look for each in above], [look] * bool(look), call)
-        self.assertEqual(rows[1].cells[5:], ['5', '0.0', ''])
+        self.assertEqual(rows[1].cells[5:], ['5', '', ''])
 
     def test_words_of_poor_calls(self) -> None:
         """By how many packets, and why; not those of which more is known."""

@@ -117,7 +117,8 @@ def circuit_row(status: TrunkStatus, row: CircuitStatus) -> ShownRow:
     begin = call.seized or call.answered
     age = status.time - second_of(begin) if begin else row.line.for_
     lost = call.lost.removeprefix('0')      # (shown if there is any)
-    return ShownRow([*cells, length(age), codec_word(row), lost, f'{row.packets.jitter_ms:.1f}', refused_words(call)],
+    jitter = f'{row.packets.jitter_ms:.1f}' if {call.received, call.discarded} - {'', '0'} else ''
+    return ShownRow([*cells, length(age), codec_word(row), lost, jitter, refused_words(call)],
                     look or look_of_call(call))
 
 
