@@ -19,7 +19,7 @@ from .svg import Scale, duration
 
 MOST = 1_900_000            # octets of a page
 LISTED = 400                # rows of a table
-FEW = 6                     # anomalies that are printed with their causes
+FEW = 8                     # anomalies that are printed with their causes
 PARTS, EACH = 24, 5         # of a call, at most, and seconds of each, at most if there are fewer
 MINOR = ('silent came', 'silent slot', 'blocked', 'command', 'unacknowledged', 'fault', 'none', 'port')
 FINE = f'<p class="fine">{NO_FAULT}</p>'
