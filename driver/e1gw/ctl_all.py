@@ -8,7 +8,7 @@ from e1gw_common.fault_words import words_of_fault
 from e1gw_common.lines import REMOTE, State
 from e1gw_common.session import DatagramRefusal
 from .control_sockets import each_trunk, read_status, trunks_here, units_here
-from .deaf import words_of_rows
+from .deaf import words_of_missing, words_of_rows
 from .metrics import block_words, state_of, wrong_rate
 from .status import TrunkStatus
 
@@ -47,7 +47,8 @@ class TrunkLine(NamedTuple):
         ended = ', '.join(what for what, why in status.ended.items() if why is not None)
         more = (f'the other end: {far}' * bool(far), f'ended: {ended}' * bool(ended),
                 'not fed' * bool(pair and not pair.fed), wrong_rate(status.clock),
-                f'satop: {satop.satop}' if satop and satop.satop else '', words_of_rows(rows), block_words(rows))
+                f'satop: {satop.satop}' if satop and satop.satop else '', words_of_rows(rows),
+                words_of_missing(status), block_words(rows))
         return cls(name, status.version, since, str(sum(row.line.state is State.ANSWERED for row in rows)),
                    str(sum(row.packets.lost for row in rows)),
                    str(sum(row.packets.datagrams.get(LATE, 0) for row in rows)),

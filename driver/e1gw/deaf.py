@@ -1,4 +1,5 @@
-"""Which calls hear nothing: no packet was accepted in them for a while, though they are answered; and the cause."""
+"""Which calls hear nothing: no packet was accepted in them for a while, though they are answered; and the cause. And
+the words of what else is wrong with a circuit."""
 from __future__ import annotations
 
 from dataclasses import dataclass, replace
@@ -6,16 +7,18 @@ from operator import itemgetter, sub
 from typing import Iterable, Mapping
 
 from e1gw_common.call_lines import CallLine
-from e1gw_common.lines import circuit_words
+from e1gw_common.lines import PAIRS, State, circuit_words
 from e1gw_common.session import OCTETS_A_SECOND, DatagramRefusal
 from e1gw_common.session_clock import second_of
 from .counts import REASONS, ToldCounts
 from .events import CallsDeaf, Tell
 from .heard_speech import SOUNDS_WRONG
-from .status import CircuitStatus
+from .status import CircuitStatus, TrunkStatus
 
 DEAF_AFTER = 2 * OCTETS_A_SECOND        # octets of the trunk
 HEARS_NOTHING, NO_PACKETS = 'hears nothing', 'no packets'
+AGAINST = 'signals against Q.421'
+POOR = 100              # of how many packets one that did not come, or was discarded, is too many
 
 
 def why_deaf(octets: int, cause: str) -> str:
@@ -86,20 +89,48 @@ class DeafCalls:
 
 
 def words_of_row(row: CircuitStatus) -> str:
-    """That a circuit of a status hears nothing, or sounds wrong; nothing if neither, or if that is not known."""
+    """That a circuit of a status is in fault, hears nothing, or sounds wrong; nothing if none of these, or if that is
+    not known, as in an alarm."""
+    if row.line.state is State.FAULT and row.line.recognised != PAIRS[None]:
+        return f'{AGAINST}: receives {row.line.recognised}'
     if row.deaf:
         return f'{HEARS_NOTHING}: {row.deaf}'
     return f'{SOUNDS_WRONG}: {row.packets.speech}' if row.packets.speech else ''
 
 
 def words_of_rows(rows: Iterable[CircuitStatus]) -> str:
-    """Which circuits of a status hear nothing, or sound wrong, by the cause."""
+    """Which circuits of a status are in fault, hear nothing, or sound wrong, by the cause."""
+    return _by_cause((row.line.circuit, words_of_row(row)) for row in rows)
+
+
+def _by_cause(found: Iterable[tuple[int, str]]) -> str:
+    """Circuits with what they have and why, as `what: why`, by these."""
     circuits = dict[str, dict[str, list[int]]]()
-    for row in rows:
-        what, _, why = words_of_row(row).partition(': ')
-        circuits.setdefault(what, {}).setdefault(why, []).append(row.line.circuit)
+    for circuit, words in found:
+        what, _, why = words.partition(': ')
+        circuits.setdefault(what, {}).setdefault(why, []).append(circuit)
     return '; '.join(f'{what}: ' + ', '.join(f'{circuit_words(its)} ({why})' for why, its in whys.items())
                      for what, whys in circuits.items() if what)
+
+
+def is_poor(call: CallLine) -> bool:
+    """Whether a hundredth of the packets of a call did not come, or was discarded."""
+    return bool(_missing_words(call))
+
+
+def _missing_words(call: CallLine) -> str:
+    """That so many packets of a call did not come, or were discarded; nothing if they are few."""
+    received, lost, discarded = (int(each or 0) for each in (call.received, call.lost, call.discarded))
+    missing, whole = lost + discarded, received + lost + discarded
+    why = 'lost' if lost >= discarded else call.cause
+    return f'calls miss packets: {100 * missing / whole:.0f} % {why}' if POOR * missing > whole else ''
+
+
+def words_of_missing(status: TrunkStatus) -> str:
+    """Which calls miss packets, by how many; without those of which other words say what is wrong."""
+    told = {row.line.circuit for row in status.circuits if words_of_row(row)}
+    return _by_cause((int(call.circuit), _missing_words(call)) for call in status.calls
+                     if int(call.circuit) not in told)
 
 
 def why_call_deaf(call: CallLine) -> str:

@@ -142,22 +142,24 @@ def state_of(status: TrunkStatus) -> str:
 
 
 class HeadLine(NamedTuple):
-    """A line above the circuits, and whether it tells of a fault."""
+    """A line above the circuits, and whether it tells of a fault, or of calls that miss packets."""
 
     text: str
     is_bad: bool = False
+    is_poor: bool = False
 
 
 def head_of(status: TrunkStatus) -> list[HeadLine]:
     """The lines above the circuits."""
     lines = _trunk_lines(status) + _pair_line(status) + _card_line(status) + _satop_line(status) + _crc4_line(status)
-    lines += [HeadLine(words, is_bad) for words, is_bad in (
-        (deaf.words_of_rows(status.circuits), True), (block_words(status.circuits), False),
-        (codec_line(status.circuits), False)) if words]
+    lines += [line for line in (
+        HeadLine(deaf.words_of_rows(status.circuits), is_bad=True),
+        HeadLine(deaf.words_of_missing(status), is_poor=True), HeadLine(block_words(status.circuits)),
+        HeadLine(codec_line(status.circuits))) if line.text]
     if status.waiting:
         lines.append(HeadLine(f'change to what is configured when their calls end: {circuit_words(status.waiting)}'))
-    if status.senders == 'any':
-        lines.append(HeadLine(SendersGiven('any').words()))
+    if status.senders == 'any' or any(row.deaf == deaf.NO_PACKETS for row in status.circuits) and status.senders:
+        lines.append(HeadLine(SendersGiven(status.senders).words()))
     lines += [HeadLine(f'ended: {what}: {why}', True) for what, why in status.ended.items() if why is not None]
     if status.stale:
         lines.append(HeadLine('the counts of packets are not those of now', True))
@@ -169,16 +171,16 @@ def _trunk_lines(status: TrunkStatus) -> list[HeadLine]:
     clock, told, stands_by = status.clock, status.told, bool(status.pair and status.pair.stands_by)
     at, hears = time.strftime('%H:%M:%S', time.gmtime(status.time)), is_aligned(status)     # (which is its other end)
     far = _alarms(told.remote_alarm, REMOTE, 'no alarm') if hears else 'not heard'
-    rate = '' if clock.rate is None else f', {wrong_rate(clock) or f"rate {100 * clock.rate:.2f} %"}'
+    rate = wrong_rate(clock) or ('' if clock.rate is None else f'rate {100 * clock.rate:.2f} %')
     return [
         HeadLine(f'trunk {status.name}, e1gw {status.version}, '
-                 f'{NOT_OPEN if status.fault else f"up {status.uptime:.0f} s{rate}"}',
+                 + (NOT_OPEN if status.fault else ', '.join(filter(None, (f'up {status.uptime:.0f} s', rate)))),
                  bool(status.fault) and not stands_by or clock.rate_wrong),
         HeadLine(f'{told.octets / 256_000:.1f} s of the trunk at {at} UTC, {state_of(status)}; the other end: {far}',
                  not (stands_by or hears and not any(told.remote_alarm.values()))),
         HeadLine('alignment lost: ' + ', '.join(f'{what} {n}' for what, n in told.losses.items())
                  + f'; stalls {clock.stalls}, slips {clock.gaps} ({clock.gap_seconds:.1f} s)'
-                 + ('' if clock.ppm is None else f', rate {clock.ppm:+.0f} ppm'))]
+                 + ('' if clock.ppm is None or clock.rate_wrong else f', rate {clock.ppm:+.0f} ppm'))]
 
 
 def states_of(row: CircuitStatus) -> tuple[str, ...]:
@@ -196,8 +198,8 @@ def block_words(rows: Iterable[CircuitStatus]) -> str:
 
 
 def wrong_rate(clock: ClockStatus) -> str:
-    """The rate over the last seconds if it is wrong."""
-    return f'wrong rate {100 * (clock.rate or 0.0):.2f} %' if clock.rate_wrong else ''
+    """The rate over the last seconds if it is wrong; another watcher knows at first only that it is."""
+    return 'wrong rate' + ('' if clock.rate is None else f' {100 * clock.rate:.2f} %') if clock.rate_wrong else ''
 
 
 def codec_word(row: CircuitStatus) -> str:

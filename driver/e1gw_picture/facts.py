@@ -218,6 +218,7 @@ class Row:
     local: str = ''
     peer: str = ''
     states: Spans = field(default_factory=lambda: Spans('fault', RANK))
+    fault: str = ''                             # the pair that came as it went to fault, where it is in it
     cells: dict[int, Cell] = field(default_factory=dict)
     cell: Cell = field(default_factory=Cell)
     commands: dict[tuple[int, Answer], CommandMark] = field(default_factory=dict)
@@ -275,11 +276,12 @@ class Row:
                 self.wrong = [*self.wrong[1 - MOST_CALLS:], self.stream]
             self.stream.refuse(ssrc, place)
 
-    def state(self, place: int, state: str) -> None:
-        """The line's state from a place."""
+    def state(self, place: int, state: str, pair: str = '') -> None:
+        """The line's state from a place, at which this pair was recognised."""
         was = self.states.value
         if state == was:
             return
+        self.fault = pair.strip('-') if state == 'fault' else ''
         if place < BEGUN and len(self.states.items) == 1 and was == 'fault':
             self.states = Spans(state, RANK)
         else:
@@ -356,6 +358,7 @@ class Facts:
         for circuit, _, state, *rest in lines:
             row = self.rows[int(circuit)]
             row.states, row.codec, row.payload = Spans(state, RANK), rest[-2], int(rest[-1])
+            row.fault = rest[1].strip('-') if state == 'fault' else ''
             if state in OPEN:
                 self.under_way.append(row.number)
 

@@ -244,6 +244,8 @@ def _lines(row: Row, whole: Cell) -> Iterator[Anomaly]:
                       f'a seizure was not acknowledged within {row.wait} ms ({times(count)})')
     if faults := whole.counts['faults']:
         yield Anomaly('fault', row.number, f'the line went to fault {times(faults)}')
+    elif row.fault:
+        yield Anomaly('fault', row.number, f'the line is in fault all the time: {row.fault} came')
     if row.states.value == 'blocked':
         yield Anomaly('blocked', row.number, 'is blocked at the end')
     refused = [command for (_, answer), command in row.commands.items() if answer is Answer.REFUSED]

@@ -19,7 +19,7 @@ from .svg import Scale, duration
 
 MOST = 1_900_000            # octets of a page
 LISTED = 400                # rows of a table
-FEW = 6                     # anomalies that are printed with their causes
+FEW = 8                     # anomalies that are printed with their causes
 PARTS, EACH = 24, 5         # of a call, at most, and seconds of each, at most if there are fewer
 MINOR = ('silent came', 'silent slot', 'blocked', 'command', 'unacknowledged', 'fault', 'none', 'port')
 FINE = f'<p class="fine">{NO_FAULT}</p>'
@@ -45,9 +45,10 @@ def table(caption: str, heads: Iterable[str], rows: Sequence[tuple[object, ...]]
 
 
 def is_quiet(row: Row, whole: Cell) -> bool:
-    """Only idle, or a line that never left its first state."""
+    """Only idle, or a line that never left its first state, which is not known to be in fault."""
     states = [state for _, state in row.states.items]
-    return whole.is_empty() and not row.commands and states in (['fault'], ['fault', 'idle'], ['idle'])
+    is_still = whole.is_empty() and not row.commands and not row.fault
+    return is_still and states in (['fault'], ['fault', 'idle'], ['idle'])
 
 
 def describe_levels(heard: Mapping[str, HeardSamples], way: str) -> str:

@@ -197,7 +197,7 @@ class SessionReading:
         row, codec, payload = self.facts.rows[int(circuit)], rest[-2], int(rest[-1])
         if (codec, payload) != (row.codec, row.payload):
             row.codec, row.payload = codec, payload
-        row.state(self.changed, state)
+        row.state(self.changed, state, rest[1])
 
     def _command(self, circuit: str, command: str, code: str) -> None:
         self.command_told(circuit, Command(int(command)).word, Kind.COMMAND, code)

@@ -13,7 +13,7 @@ from e1gw.heard_speech import EACH_TWICE, FIRST, HeardSpeech
 from e1gw.status import CircuitStatus
 from e1gw.watcher.page import body_of, parts_of
 from e1gw_common.g711 import OTHER
-from e1gw_common.lines import LineStatus
+from e1gw_common.lines import LineStatus, State
 from e1gw_common.session import datagram_record
 
 SECOND, STEP = 50, 160              # packets and samples of 20 ms
@@ -74,6 +74,10 @@ class HeardSpeechTests(unittest.TestCase):
                 for n, (deaf, speech) in enumerate([(None, 'x'), ('Late', 'x'), (None, None), ('Late', None),
                                                     (None, 'x'), (None, 'y')], 1)]
         self.assertEqual(words_of_rows(rows), 'sounds wrong: 1, 5 (x), 6 (y); hears nothing: 2, 4 (Late)')
+        lines = [LineStatus(n, state=state, recognised=pair) for n, (state, pair) in enumerate([
+            (State.FAULT, '01'), (State.FAULT, '--'), (State.IDLE, '10'), (State.FAULT, '01')], 1)]
+        self.assertEqual(words_of_rows([CircuitStatus(line=each) for each in lines]),
+                         'signals against Q.421: 1, 4 (receives 01)')
 
 
 class HeardTrunkTests(DeafTrunkCase):

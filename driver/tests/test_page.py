@@ -20,6 +20,7 @@ from .support import SECONDS
 from .test_trunk import FOUR, aligned, call
 from .world import World, config_of
 from e1gw_common.call_lines import CallLine, csv_line
+from e1gw.clock import ClockStatus
 from e1gw.ctl_all import TrunkHere, TrunkLine
 from e1gw.events import (AlarmChanged, BlockNews, CardAlarm, CardAlarmChanged, Connected, Crc4Change, Crc4Changed,
                          Disconnected, Event, Fed, Flows, LineChanged, NotFed, ReadEvents, RemoteAlarmChanged, Slip,
@@ -32,7 +33,7 @@ from e1gw.status import CircuitStatus, MachineRole, PairStatus, ToldStatus, Tran
 from e1gw.watcher import http_pages
 from e1gw.watcher.options import kept_of
 from e1gw.watcher.page import (POLICY, Look, Parts, ShownRow, circuit_row, ended_row, length, message_of, page_of,
-                               trunk_row, trunks_page)
+                               parts_of, trunk_row, trunks_page)
 from e1gw.watcher.http_pages import EventReaders
 from e1gw_common.web import NOTHING, PageRequest
 from e1gw_testing.ports import free_port
@@ -91,7 +92,19 @@ class PageTextTests(unittest.TestCase):
             row = CircuitStatus(line=LineStatus(7, Role.OUTGOING, State.ACKED, for_=1.0))
             rows = ended_row(csv_line(call), None), circuit_row(replace(WELL, calls=(call,)), row)
             self.assertEqual([each.look for each in rows], [look, look], call)
-        self.assertEqual(rows[1].cells[5:], ['5', '0.0', ''])
+            above = parts_of(replace(WELL, calls=(call,)), mock.Mock(events=(), ended=()))['state'][3:]
+            self.assertEqual([each.look for each in above], [look] * bool(look), call)
+        self.assertEqual(rows[1].cells[5:], ['5', '', ''])
+
+    def test_words_of_poor_calls(self) -> None:
+        """By how many packets, and why; not those of which more is known."""
+        calls = [CallLine(*[''] * len(CallLine._fields))._replace(
+            circuit=str(n), received='95', lost=lost, discarded=discarded, cause='Late')
+            for n, lost, discarded in ((1, '5', '0'), (2, '0', '5'), (3, '5', ''), (4, '0', '0'), (7, '5', '0'))]
+        status = replace(WELL, calls=(*calls,), circuits=(CircuitStatus(line=LineStatus(7), deaf='Late'),))
+        words = 'calls miss packets: 1, 3 (5 % lost), 2 (5 % Late)'
+        self.assertEqual([*head_of(status)][-1].text, words)
+        self.assertTrue(TrunkLine.from_status('a', status).state.endswith(f'; {words}'))
 
     def test_red_lines(self) -> None:
         """Those above the circuits, of what is wrong with the trunk now."""
@@ -107,6 +120,18 @@ class PageTextTests(unittest.TestCase):
         for more, red in rows:
             lines = head_of(replace(WELL, **more))
             self.assertEqual([at for at, line in enumerate(lines) if line.is_bad], red, more)
+
+    def test_what_may_be_the_cause(self) -> None:
+        """Whose packets are received is told where none come to a call; a rate of steady flow is not told beside one
+        that is wrong."""
+        for deaf, senders, is_told in ((None, 'peer', False), ('no packets', 'peer', True), ('no packets', '', False),
+                                       ('Late', 'peer', False), (None, 'any', True)):
+            rows = CircuitStatus(line=LineStatus(7), deaf=deaf),
+            words = [line.text for line in head_of(replace(WELL, senders=senders, circuits=rows))]
+            self.assertEqual(f'(--senders {senders})' in words[-1], is_told, (deaf, senders))
+        for is_wrong in False, True:
+            text = head_of(replace(WELL, clock=ClockStatus(ppm=5.0, rate=0.99, rate_wrong=is_wrong)))[2].text
+            self.assertEqual('rate +5 ppm' in text, not is_wrong)
 
     def test_how_long(self) -> None:
         self.assertEqual([length(seconds) for seconds in (-1, 65.9, 3605)], ['0:00', '1:05', '1:00:05'])

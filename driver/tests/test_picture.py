@@ -65,6 +65,22 @@ class FactsTests(unittest.TestCase):
             row.state(9000, 'fault')
             self.assertEqual(row.states.items, [*spans, (9000, 'fault')])
 
+    def test_a_line_in_fault_all_the_time(self) -> None:
+        """It is found, and drawn, if what came then is known: where it went to fault before, and in the state of a
+        ring. Behind the fault it is not, nor where nothing was received yet."""
+        rows: tuple[tuple[list[str], list[tuple[str, str]], list[str]], ...] = (
+            ([], [('idle', '10'), ('fault', '01')], ['the line went to fault once']),
+            (['fault', '10', '01'], [], ['the line is in fault all the time: 01 came']),
+            (['fault', '10', '--'], [], []), (['fault', '10', '01'], [('idle', '10')], []))
+        for told, states, words in rows:
+            facts = Facts({3: Row(3)})
+            facts.begin_session(0, [], [['3', 'outgoing', *told, 'pcma', '8']] if told else [])
+            for n, (state, pair) in enumerate(states):
+                facts.rows[3].state(1000 * n, state, pair)
+            facts.turn(OCTETS_A_SECOND)
+            self.assertEqual([each.seen for each in findings(facts) if each.circuit], words)
+            self.assertEqual('Nothing but idle: circuits 3.' in draw(facts, 'x'), not words, words)
+
     def test_no_circuit_tells_the_law_alone(self) -> None:
         """A sender of the other law whom the exchange sends back, beside a circuit that reads like the trunk's law, and
         without it."""

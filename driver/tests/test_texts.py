@@ -109,7 +109,7 @@ e1gw_uptime_seconds 100.0
 e1gw_build_info{version="1.2"} 1'''
 TABLE = '''trunk west, e1gw 1.2, up 100 s, wrong rate 20.38 %
 2.0 s of the trunk at 00:01:40 UTC, loss of multiframe alignment; the other end: not heard
-alignment lost: frame 21, multiframe 22; stalls 23, slips 26 (27.3 s), rate -29 ppm
+alignment lost: frame 21, multiframe 22; stalls 23, slips 26 (27.3 s)
 two machines: the standby is not fed: its link; configured otherwise there: circuits 3, 4
 card: span 2, LOOPBACK, RED, bit errors 37
 CRC-4: multiframe alignment, lost 35, of it 36 for 915 errored of 1000; errored 32 of 31 submultiframes, the other end \
@@ -248,6 +248,8 @@ class TrunkTextTests(unittest.TestCase):
                   'role': 'active', 'fed': False, 'ended': {'json': 'no room', 'session': 'x', 'calls': None}},
                  'west         1.2      1970-01-02 00:00      0        0        0  no trunk; ended: json, session; '
                  'not fed'),
+                ({'clock': {'rate_wrong': True}, 'circuits': []},
+                 'west         1.2      1970-01-02 00:00      0        0        0  aligned; wrong rate'),
                 ({'clock': {'stalled': False, 'rate': 0.2, 'rate_wrong': True}, 'circuits': [],
                   'transport': {'satop': 'packets missing'}},
                  'west         1.2      1970-01-02 00:00      0        0        0  aligned; wrong rate 20.00 %; satop: '

@@ -18,10 +18,10 @@ from e1gw_common.lines import State
 from e1gw_common.session import CIRCUITS
 from e1gw_common.session_clock import second_of
 from ..ctl_all import TrunkHere, TrunkLine
-from ..deaf import refused_words, why_call_deaf, words_of_call, words_of_row
+from ..deaf import is_poor, refused_words, why_call_deaf, words_of_call, words_of_row
 from ..events import ReadEvent
 from ..files_status import FilesStatus
-from ..metrics import NOT_OPEN, codec_word, head_of, states_of
+from ..metrics import NOT_OPEN, HeadLine, codec_word, head_of, states_of
 from ..status import CircuitStatus, TrunkStatus
 
 
@@ -50,7 +50,6 @@ PAGE = string.Template(WHOLE)
 STILL = string.Template(WHOLE.replace(f'<script>{SCRIPT}</script>', ''))
 LATER = '<noscript><meta http-equiv="refresh" content="10"></noscript>'
 SOON, AT_ONCE = (f'<meta http-equiv="refresh" content="{seconds}">' for seconds in (5, 1))
-POOR = 100                  # of how many packets one that did not come, or was discarded, is too many
 # Each table: its class, what it has, the heads of its columns, and the ids of its bodies.
 TABLES: tuple[tuple[str, str, tuple[str, ...], Sequence[str]], ...] = (
     ('state', '', (), ['state']),
@@ -100,8 +99,12 @@ def look_of_circuit(status: TrunkStatus, row: CircuitStatus) -> Look:
 
 def look_of_call(call: CallLine) -> Look:
     """That of a call, by its packets."""
-    received, lost, discarded = (int(each or 0) for each in (call.received, call.lost, call.discarded))
-    return Look.POOR if POOR * (lost + discarded) > received + lost + discarded else Look.PLAIN
+    return Look.POOR if is_poor(call) else Look.PLAIN
+
+
+def look_of_line(line: HeadLine) -> Look:
+    """That of a line above the circuits."""
+    return Look.BAD if line.is_bad else Look.POOR if line.is_poor else Look.PLAIN
 
 
 def circuit_row(status: TrunkStatus, row: CircuitStatus) -> ShownRow:
@@ -114,7 +117,8 @@ def circuit_row(status: TrunkStatus, row: CircuitStatus) -> ShownRow:
     begin = call.seized or call.answered
     age = status.time - second_of(begin) if begin else row.line.for_
     lost = call.lost.removeprefix('0')      # (shown if there is any)
-    return ShownRow([*cells, length(age), codec_word(row), lost, f'{row.packets.jitter_ms:.1f}', refused_words(call)],
+    jitter = f'{row.packets.jitter_ms:.1f}' if {call.received, call.discarded} - {'', '0'} else ''
+    return ShownRow([*cells, length(age), codec_word(row), lost, jitter, refused_words(call)],
                     look or look_of_call(call))
 
 
@@ -131,7 +135,7 @@ def ended_row(line: str, kept: str | None) -> ShownRow:
 def parts_of(status: TrunkStatus, notes: PageNotes) -> Parts:
     """The rows of all tables."""
     alarms = [ShownRow([each.words, clock(each.time)], Look.BAD) for each in status.alarms]
-    return {'state': [ShownRow([line.text], Look.BAD if line.is_bad else Look.PLAIN) for line in head_of(status)],
+    return {'state': [ShownRow([line.text], look_of_line(line)) for line in head_of(status)],
             'alarms': alarms or [ShownRow(['no alarm', ''])],
             **{f'c{row.line.circuit}': [circuit_row(status, row)] for row in status.circuits},
             'calls': [ended_row(line, notes.kept) for line in notes.ended],
