@@ -33,10 +33,11 @@ struct Poller {
 /// When each circuit asks the system for a datagram.
 ///
 /// After a receive that found none, the next seven rest: they find none by themselves. If the system says what
-/// comes to the socket, the next 799 do, which is 100 ms, unless something comes. A datagram that comes meanwhile
-/// stays in the socket, and is received up to seven octets of its circuit later, 0.9 ms. No receive rests after
-/// one that gave a datagram or a stranger's, so those that wait are received one after the other. The system is asked what came
-/// before each trunk record and once in 250 receives, of all circuits together.
+/// comes to the socket, the next 799 do, which is 100 ms, unless something comes. A datagram that comes
+/// meanwhile stays in the socket, and is received up to seven octets of its circuit later, 0.9 ms. No receive
+/// rests after one that gave a datagram, or discarded a stranger's, so those that wait are received one after
+/// the other. The system is asked what came before each trunk record and once in 250 receives, of all circuits
+/// together.
 #[derive(Drop)]
 pub(crate) struct Readiness {
     poller: Option<Poller>,
