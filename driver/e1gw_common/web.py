@@ -14,6 +14,7 @@ from .faults import named
 from .plain import plain_of
 
 SECONDS, MOST_VISITORS = 10.0, 64   # for one request, and who may ask at once
+MOST_REQUEST = 8192                 # octets of it, to the line that is empty
 HEAD = ('HTTP/1.0 {status}\r\nContent-Type: {kind}; charset=utf-8\r\nContent-Security-Policy: {policy}\r\n'
         'X-Content-Type-Options: nosniff\r\nCache-Control: no-store\r\nConnection: close\r\n')
 NOTHING = "default-src 'none'"      # what a page may load

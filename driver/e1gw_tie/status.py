@@ -12,13 +12,13 @@ from e1gw_common.lines import IN_CALL, Role, State
 from e1gw_common.prometheus import Family, text_of
 from e1gw_common.tasks import Tasks
 from e1gw_common.unix_listener import unix_listener
-from e1gw_common.web import StatusTexts, WebServer
+from e1gw_common.web import MOST_REQUEST, StatusTexts, WebServer
 from .circuit import LinkState
 from .tie import Tie
 
 SECONDS = 60.0              # for one who asks at the socket
 MODE = 0o660                # of the socket
-MOST_LINE = 4096            # octets of a line, and of a request
+MOST_LINE = 4096            # octets of a line
 HEAD = 'here there role     state       there is    remark'
 NO_COMMAND = refused('there are status, status json and metrics')
 
@@ -129,4 +129,4 @@ async def serve_status(tie: Tie, path: str | None, http: tuple[str, int] | None)
     if path:
         await asyncio.start_unix_server(on_connect, sock=unix_listener(path, MODE, None), limit=MOST_LINE)
     if http:
-        await asyncio.start_server(WebServer(fresh).on_connect, *http, limit=MOST_LINE)
+        await asyncio.start_server(WebServer(fresh).on_connect, *http, limit=MOST_REQUEST)

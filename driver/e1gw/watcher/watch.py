@@ -20,7 +20,7 @@ from e1gw_common.report import json_line
 from e1gw_common.session import CIRCUITS, Codec, Command, codec_record, command_record
 from e1gw_common.tasks import Tasks, retry, run_periodically, report_failure, log_failure
 from e1gw_common.unix_listener import CannotListen, unix_listener
-from e1gw_common.web import web_listener
+from e1gw_common.web import MOST_REQUEST, web_listener
 from ..calls import CallsNote
 from ..clearing import DisconnectWatch, OutageWatch, on_loss_of
 from ..clock import ClockFinding
@@ -285,7 +285,8 @@ class TrunkWatch:
             await self._listen(wants.control)
         if wants.http:
             server = TrunkServer(self.pages.fresh, wants.http[0], wants.picture)
-            await asyncio.start_server(server.on_connect, sock=web_listener(*wants.http), limit=8192)
+            await asyncio.start_server(server.on_connect, sock=web_listener(*wants.http),
+                                       limit=MOST_REQUEST)
 
     async def _listen(self, path: str) -> None:
         listener = unix_listener(path, self.wants.control_mode, self.wants.control_group)
