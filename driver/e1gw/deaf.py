@@ -119,7 +119,7 @@ def is_poor(call: CallLine) -> bool:
 
 
 def _missing_words(call: CallLine) -> str:
-    """That so many packets of a call did not come, or were discarded; nothing if they are few."""
+    """What part of a call's packets were lost or discarded, and why; nothing if it is small."""
     received, lost, discarded = (int(each or 0) for each in (call.received, call.lost, call.discarded))
     missing, whole = lost + discarded, received + lost + discarded
     why = 'lost' if lost >= discarded else call.cause

@@ -20,7 +20,7 @@ class TrunkRate:
         self._lows = deque[tuple[float, float]]()       # the least lateness, of seconds that began then
 
     def clear(self) -> None:
-        """It is measured anew."""
+        """Forgets what was measured."""
         self._lows.clear()
 
     def update_rate(self, now: float, behind: float) -> bool:

@@ -1,4 +1,4 @@
-"""The part of the octets that comes: which rate is told to be wrong, and which is only a machine that stands still."""
+"""Which rate of a trunk is wrong, and which is only seen so because a machine stands still."""
 from __future__ import annotations
 
 import unittest
@@ -7,7 +7,7 @@ from .test_clock import WRONG_AND_RIGHT, ClockedTrunk
 
 
 class TrunkRateTests(unittest.TestCase):
-    # What happens, and which rate is told to be wrong first, and then right.
+    # What happens; then the rates that are found wrong, and those found right again.
     WHOLE_RATES: dict[str, tuple[list[tuple[str, float]], list[float]]] = {
         'a fifth': ([('fifth', 15.5)], [0.2]), 'a fifth for a while': ([('fifth', 16), ('go', 30)], [0.2, 1.0]),
         'octets in bursts': ([('quiet', 0.472), ('at_once', 0.472), ('go', 0.04)] * 90, []),

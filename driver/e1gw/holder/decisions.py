@@ -1,7 +1,7 @@
 """What a holder does next: pure functions of what is known, without a clock, a file or a process.
 
-After a holder dies nobody answers the trunk until the next one has imported its modules: so none of this folder imports
-dataclasses, which is slow."""
+After a holder dies nobody answers the trunk until the next one has imported its modules. dataclasses is slow to import,
+so no module of this folder does it."""
 from __future__ import annotations
 
 from enum import Enum
